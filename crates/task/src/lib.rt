@@ -1,0 +1,6 @@
+//! Jobs: conditional task graphs, their choices and branches, and the windows of their sub-tasks.
+pub mod graph;
+pub mod job;
+pub mod node;
+pub mod ranges;
+pub mod sound;
