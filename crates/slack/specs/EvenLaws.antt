@@ -1,7 +1,7 @@
 -- The even rule keeps the laws.
-use mathlib.Core.Path.{_≡_, ap, _∙_}
-use mathlib.Core.Bool.{true, false, cond}
-use mathlib.Core.Logic.{_⊎_, inl, inr}
+use mathlib.Core.Path.{_≡_, _∙_}
+use mathlib.Core.Bool.{cond}
+use mathlib.Core.Logic.{inl, inr}
 use Prim.Native.Nat.{ℕ, _+_, _-_, _*_, _/_, _≤_, _<_}
 use native.Mathlib.Nat.{mul-comm, mul-le-mul-left, div-mul-le-self, div-le-of-le-mul}
 use native.Mathlib.Omega.{arith}
@@ -13,11 +13,11 @@ use Rattle.slack.specs.Rule.{Bounds, Lawful, bounded}
 use Rattle.slack.specs.Even.{even}
 use Rattle.slack.specs.Tested.{tested-if-bounds, untested-if-outside}
 
--- of a free ticks, the part at level l of m
+-- the part of a free ticks at level l of m
 abbrev part : ℕ → ℕ → ℕ → ℕ
 part a l m = a * l / m
 
--- what the rule gives before the end of a path, and inside the bounds
+-- what the rule gives inside the bounds, and there to a sub-task that others come after
 abbrev before : Position → ℕ
 before p = p .head + part (p .deadline - p .span) (p .level) (p .depth)
 

@@ -30,22 +30,20 @@ share-fits D h t =
     let less = mul-le-mul-left D short in
     div-le-of-le-mul (h + t) (omega (arith, mul-comm D (h + t)))
 
--- A path of length A through u, one of length B through v, of which c + x ticks come after the head h of u and before the end of v.
--- The quotient q of u and c more fit into the quotient of v.
+-- A path of A ticks goes through u, whose head is h, and one of B ticks through v, whose head is h + c + x.
+-- Where q is no more than the share of u, q + c is no more than the share of v.
 apart : (D h c x A B q : ℕ) → 1 ≤ A → q * A ≤ D * h → B ≤ D → B ≤ A + x → h ≤ A → (q + c) * B ≤ D * (h + c + x)
 apart D h c x A B q one below long wide short =
-    let s1 = mul-le-mul-right B below in
-    let s2 = mul-le-mul-left (c * A) long in
-    let s3 = mul-le-mul-left h wide in
-    let s4 = mul-le-mul-right x short in
-    let s5 : h * B + c * A ≤ (h + c + x) * A =
-    omega (arith, mul-add h A x, add-mul (h + c) x A, add-mul h c A, mul-comm A x) in
-    let s6 = mul-le-mul-left D s5 in
-    let left : (q + c) * B * A ≡ q * A * B + c * A * B =
-    mul-right-comm (q + c) B A ∙ ap (λ z. z * B) (add-mul q c A) ∙ add-mul (q * A) (c * A) B in
+    let share-u = mul-le-mul-right B below in
+    let gap = mul-le-mul-left (c * A) long in
+    let wider = mul-le-mul-left h wide in
+    let shorter = mul-le-mul-right x short in
+    let heads : h * B + c * A ≤ (h + c + x) * A = omega (arith, mul-add h A x, add-mul (h + c) x A, add-mul h c A, mul-comm A x) in
+    let shares = mul-le-mul-left D heads in
+    let parts : (q + c) * A * B ≡ q * A * B + c * A * B = ap (λ z. z * B) (add-mul q c A) ∙ add-mul (q * A) (c * A) B in
+    let left = mul-right-comm (q + c) B A in
     let right = mul-assoc D (h + c + x) A in
-    let both : (q + c) * B * A ≤ D * (h + c + x) * A =
-    omega (arith, mul-add D (h * B) (c * A), mul-assoc D h B, mul-comm D (c * A)) in
+    let both : (q + c) * B * A ≤ D * (h + c + x) * A = omega (arith, mul-add D (h * B) (c * A), mul-assoc D h B, mul-comm D (c * A)) in
     le-of-mul-le-mul-right both one
 
 -- c ticks of work between two sub-tasks stand between their shares

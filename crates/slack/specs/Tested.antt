@@ -1,7 +1,7 @@
 -- The test for the bounds is true inside them and false outside.
 use mathlib.Core.Path.{_≡_}
 use mathlib.Core.Bool.{true, false}
-use mathlib.Core.Logic.{_⊎_, inl, inr}
+use mathlib.Core.Logic.{inl, inr}
 use Rattle.std.proofs.shelf.Tests.{and-parts, and-from, leb-true, le-leb, cases-bool}
 use Rattle.slack.specs.declared.rule.Position.{Position}
 use Rattle.slack.specs.Rule.{Bounds, bounded}
