@@ -53,19 +53,20 @@ product-few m ns fit u (suc n) =
     let e : u + suc n ≡ suc u + n = omega arith in
     let end = ap (λ k. 3 ^ count-below p k) e in
     elim (cases-bool (covers m (at ns u))) [
-      inl yes′ ↦
-        let more : count-below p (suc u) ≡ suc (count-below p u) = rw yes′ (omega arith) in
-        let here = ap (λ k. product (ways m ns) (suc u) n * 3 ^ k) more in
-        let cube = ap (λ k. product (ways m ns) (suc u) n * k) (pow-suc 3 (count-below p u)) in
-        let all = one-more (ways m ns u) (product (ways m ns) (suc u) n) (3 ^ count-below p u) (3 ^ count-below p (suc u + n)) (ways-few m ns fit u .1) (omega arith) in
-        omega arith
-    | inr no′ ↦
-        let same : count-below p (suc u) ≡ count-below p u = rw no′ (omega arith) in
-        let here = ap (λ k. product (ways m ns) (suc u) n * 3 ^ k) same in
-        let one : ways m ns u ≡ 1 = rw no′ refl in
-        let there = ap (λ k. k * product (ways m ns) (suc u) n * 3 ^ count-below p u) one in
-        let alone = ap (λ k. k * 3 ^ count-below p u) (one-mul (product (ways m ns) (suc u) n)) in
-        omega arith ]
+      | inl yes′ ↦
+          let more : count-below p (suc u) ≡ suc (count-below p u) = rw yes′ (omega arith) in
+          let here = ap (λ k. product (ways m ns) (suc u) n * 3 ^ k) more in
+          let cube = ap (λ k. product (ways m ns) (suc u) n * k) (pow-suc 3 (count-below p u)) in
+          let all = one-more (ways m ns u) (product (ways m ns) (suc u) n) (3 ^ count-below p u) (3 ^ count-below p (suc u + n)) (ways-few m ns fit u .1) (omega arith) in
+          omega arith
+      | inr no′ ↦
+          let same : count-below p (suc u) ≡ count-below p u = rw no′ (omega arith) in
+          let here = ap (λ k. product (ways m ns) (suc u) n * 3 ^ k) same in
+          let one : ways m ns u ≡ 1 = rw no′ refl in
+          let there = ap (λ k. k * product (ways m ns) (suc u) n * 3 ^ count-below p u) one in
+          let alone = ap (λ k. k * 3 ^ count-below p u) (one-mul (product (ways m ns) (suc u) n)) in
+          omega arith
+    ]
 
 few-count : (m : Numbering) (ns : List Node) → few-forks ns ≡ true → count-below (λ v. covers m (at ns v)) (length ns) ≤ 4
 few-count Choice ns few = leb-true _ 4 (and-parts _ _ few .0)

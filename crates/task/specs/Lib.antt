@@ -4,4 +4,5 @@ pub mod Graph
 pub mod Nodes
 pub mod Flaws
 pub mod Picks
+pub mod Tables
 pub mod Concrete

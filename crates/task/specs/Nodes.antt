@@ -4,6 +4,7 @@
 --   Below v us          every node of us is below v
 --   Numbers-fit ns      the numbers of every node lie in their ranges
 --   Forks-fit ns        every fork is right
+--   Sound ns            the nodes of a job
 --   Blank-from n ns     from n on the table is blank
 use mathlib.Core.Path.{_≡_}
 use mathlib.Core.List.{List}
@@ -35,3 +36,11 @@ Forks-fit ns = (v : ℕ) → fork-fits ns v ≡ true
 
 abbrev pub Blank-from : ℕ → List Node → Type 0
 Blank-from n ns = (v : ℕ) → n ≤ v → v < length ns → at ns v ≡ blank
+
+pub record Sound (ns : List Node) : Type 0 where
+  pub some : 1 ≤ length ns
+  pub few : length ns ≤ 24
+  pub ranged : Numbers-fit ns
+  pub upward : Upward ns
+  pub forked : Forks-fit ns
+  pub few-forked : few-forks ns ≡ true

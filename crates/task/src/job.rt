@@ -1,5 +1,5 @@
 //! A job, and what makes one sound.
-ghost use lib.ListN.{take};
+ghost use lib.ListN.{length, take};
 ghost use mathlib.Core.Bool.{true};
 ghost use mathlib.Core.Path.{_≡_};
 ghost use Rattle.task.specs.Graph.{Upward};
@@ -22,6 +22,7 @@ pub struct Job {
     ghost periodic: { fits (Period period) ≡ true },
     ghost due: { fits (Deadline period deadline) ≡ true },
     ghost counted: { fits (Count count) ≡ true },
+    ghost sized: { length nodes ≡ 24 },
     ghost blank: { Blank-from count nodes },
     ghost ranged: { Numbers-fit (take count nodes) },
     ghost upward: { Upward (take count nodes) },

@@ -6,3 +6,4 @@ pub mod node;
 pub mod picks;
 pub mod ranges;
 pub mod sound;
+pub mod tables;

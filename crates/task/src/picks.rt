@@ -3,10 +3,9 @@ ghost use lib.ListN.{getD, length};
 ghost use mathlib.Core.Path.{_≡_};
 ghost use Prim.Native.Nat.{ℕ, _<_, _≤_};
 ghost use Rattle.task.specs.Flaws.{graph};
-ghost use Rattle.task.specs.Nodes.{Forks-fit, few-forks};
-ghost use Rattle.task.specs.Picks.{keeps, numbers, pick, ways};
+ghost use Rattle.task.specs.Nodes.{Sound};
+ghost use Rattle.task.specs.Picks.{numbers, pick, ways};
 ghost use Rattle.task.specs.declared.node.Numbering.the-variants.{Choice, Branch};
-ghost use mathlib.Core.Bool.{true};
 use crate::graph::rank;
 use crate::job::Job;
 use crate::node::NODES;
@@ -25,7 +24,7 @@ fn ways(nodes: &[Node], numbering: Numbering, u: usize) -> u32
 }
 
 fn numbers(nodes: &[Node], numbering: Numbering) -> u32
-    requires { ⌜ length (now nodes) ≤ 24 ⌝ ∗ ⌜ Forks-fit (now nodes) ⌝ ∗ ⌜ few-forks (now nodes) ≡ true ⌝ }
+    requires { ⌜ Sound (now nodes) ⌝ }
     ensures { λ r. ⌜ r ≡ numbers numbering (now (nodes .entry)) ⌝ }
 {
     let mut total = 1;
@@ -37,7 +36,7 @@ fn numbers(nodes: &[Node], numbering: Numbering) -> u32
 
 /// Which edge out of each fork the number picks.
 pub(crate) fn picks(nodes: &[Node], numbering: Numbering, number: u32) -> [u32; NODES]
-    requires { ⌜ length (now nodes) ≤ 24 ⌝ ∗ ⌜ Forks-fit (now nodes) ⌝ }
+    requires { ⌜ Sound (now nodes) ⌝ }
     ensures { λ r. ⌜ ((u : ℕ) → u < length (now (nodes .entry)) → getD r u 0 ≡ pick numbering (now (nodes .entry)) number u) ⌝ }
 {
     let mut picks = [0; NODES];
@@ -55,13 +54,13 @@ impl Job {
     pub fn choices(&self) -> u32
         ensures { λ r. ⌜ r ≡ numbers Choice (graph (now (self .entry))) ⌝ }
     {
-        numbers(&self.nodes[0..self.count], Numbering::Choice)
+        numbers(self.graph(), Numbering::Choice)
     }
 
     /// How many branch numbers there are: one edge of every conditional.
     pub fn branches(&self) -> u32
         ensures { λ r. ⌜ r ≡ numbers Branch (graph (now (self .entry))) ⌝ }
     {
-        numbers(&self.nodes[0..self.count], Numbering::Branch)
+        numbers(self.graph(), Numbering::Branch)
     }
 }

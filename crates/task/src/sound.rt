@@ -7,9 +7,9 @@ ghost use Prim.Native.Nat.{ℕ, _<_, _≤_};
 ghost use Rattle.std.specs.Options.{Cases as BySome};
 ghost use Rattle.std.specs.Orderings.{Decides};
 ghost use Rattle.std.specs.Results.{Cases};
-ghost use Rattle.task.specs.Flaws.{Flawed, Header-fits, Made-of};
+ghost use Rattle.task.specs.Flaws.{Flawed, Header-fits, Made-of, graph};
 ghost use Rattle.task.specs.Graph.{Upward};
-ghost use Rattle.task.specs.Nodes.{Below, Blank-from, Forks-fit, Numbers-fit, few-forks, fork-fits};
+ghost use Rattle.task.specs.Nodes.{Below, Blank-from, Forks-fit, Numbers-fit, Sound, few-forks, fork-fits};
 ghost use Rattle.task.specs.Ranges.{numbers-fit};
 use crate::graph::edges_in;
 use crate::graph::forks;
@@ -121,6 +121,14 @@ fn table(nodes: &[Node]) -> [Node; NODES]
 }
 
 impl Job {
+    /// The nodes of the job.
+    pub fn graph(&self) -> &[Node]
+        ensures nodes { λ r. ⌜ now r ≡ graph (now (self .entry)) ⌝ }
+        ensures sound { λ r. ⌜ Sound (now r) ⌝ }
+    {
+        &self.nodes[0..self.count]
+    }
+
     /// The job of these numbers and nodes.
     pub fn new(number: u32, period: Ticks, deadline: Ticks, nodes: &[Node]) -> Result<Job, Flaw>
         ensures { λ r. ⌜ Cases r (Made-of number period deadline (now (nodes .entry))) (Flawed number period deadline (now (nodes .entry))) ⌝ }

@@ -28,6 +28,9 @@ pub mul-total : need.mul-total
 mul-total c =
     let u = c .loop-u .u in
     let small : c .loop-u .total * c .ways-total .result ≤ 81 =
-          omega (arith, product-turn (ways (c .args .numbering) (c .args .nodes .now)) (length (c .args .nodes .now)) u _ _ (c .loop-u-test .taken) (c .loop-u .kept .u) (c .loop-u .inv) (c .ways-total .ensures),
-            product-small (c .args .numbering) (c .args .nodes .now) (c .pre .1 .0) (c .pre .1 .1) (u - 1) (omega arith)) in
+    omega (
+      arith,
+      product-turn (ways (c .args .numbering) (c .args .nodes .now)) (length (c .args .nodes .now)) u _ _ (c .loop-u-test .taken) (c .loop-u .kept .u) (c .loop-u .inv) (c .ways-total .ensures),
+      product-small (c .args .numbering) (c .args .nodes .now) (c .pre .forked) (c .pre .few-forked) (u - 1) (omega arith),
+    ) in
     search needs

@@ -25,8 +25,9 @@ digit-turn f k len u was way some is w =
 places-turn : (pick : ℕ → ℕ) (was : List ℕ) (len u x : ℕ) → 0 < u → u ≤ length was → ((w : ℕ) → u ≤ w → w < len → getD was w 0 ≡ pick w) → x ≡ pick (u - 1)
     → (w : ℕ) → u - 1 ≤ w → w < len → getD (set was (u - 1) x) w 0 ≡ pick w
 places-turn pick was len u x some room kept is w from in′ = elim (cases-eq w (u - 1)) [
-    inl e ↦ ap (λ v. getD (set was (u - 1) x) v 0) e ∙ getD-set-same was (u - 1) x 0 (omega arith) ∙ is ∙ ap pick (sym e)
-  | inr ne ↦ getD-set-other was (u - 1) w x 0 ne ∙ kept w (omega arith) in′ ]
+  | inl e ↦ ap (λ v. getD (set was (u - 1) x) v 0) e ∙ getD-set-same was (u - 1) x 0 (omega arith) ∙ is ∙ ap pick (sym e)
+  | inr ne ↦ getD-set-other was (u - 1) w x 0 ne ∙ kept w (omega arith) in′
+]
 
 pub loop-u-again : need.loop-u-again
 loop-u-again c =
@@ -34,11 +35,12 @@ loop-u-again c =
     let ns = c .args .nodes .now in
     let k = c .args .number in
     let u = c .loop-u .u in
-    let inv = c .loop-u .inv in
-    (length-set (c .loop-u .picks) (u - 1) (c .loop-u .rest % c .ways-ways .result) ∙ inv .0,
-     rest-turn (ways m ns) k (length ns) u _ _ (c .loop-u-test .taken) (c .loop-u .kept .u) (inv .1) (c .ways-ways .ensures),
-     places-turn (pick m ns k) (c .loop-u .picks) (length ns) u _ (c .loop-u-test .taken) (omega (arith, c .loop-u .kept .u, c .pre .0, inv .0)) (inv .2)
-       (digit-turn (ways m ns) k (length ns) u _ _ (c .loop-u-test .taken) (inv .1) (c .ways-ways .ensures)))
+    let inv = c .loop-u .inv in (
+      length-set (c .loop-u .picks) (u - 1) (c .loop-u .rest % c .ways-ways .result) ∙ inv .0,
+      rest-turn (ways m ns) k (length ns) u _ _ (c .loop-u-test .taken) (c .loop-u .kept .u) (inv .1) (c .ways-ways .ensures),
+      places-turn (pick m ns k) (c .loop-u .picks) (length ns) u _ (c .loop-u-test .taken) (omega (arith, c .loop-u .kept .u, c .pre .few, inv .0)) (inv .2)
+          (digit-turn (ways m ns) k (length ns) u _ _ (c .loop-u-test .taken) (inv .1) (c .ways-ways .ensures)),
+    )
 
 pub returns : need.returns
 returns c u inside = c .loop-u .inv .2 u (omega arith) inside

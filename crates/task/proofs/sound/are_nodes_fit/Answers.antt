@@ -1,6 +1,6 @@
 use mathlib.Core.Path.{refl}
 use native.Mathlib.Omega.{arith}
-use Rattle.task.proofs.Tables.{edge-inside}
+use Rattle.task.proofs.Places.{edge-inside}
 use Rattle.task.proofs.sound.are_nodes_fit.Needs as need
 
 pub returns : need.returns

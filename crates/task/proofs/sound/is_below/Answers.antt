@@ -1,6 +1,6 @@
 use mathlib.Core.Path.{refl}
 use native.Mathlib.Omega.{arith}
-use Rattle.task.proofs.Tables.{true-inside}
+use Rattle.task.proofs.Places.{true-inside}
 use Rattle.task.proofs.sound.is_below.Needs as need
 
 pub returns : need.returns
