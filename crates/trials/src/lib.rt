@@ -111,7 +111,7 @@ mod tests {
         Ok(())
     }
 
-    // Marks of 240 and of 241, and one line of marks up to the text's limit and past it.
+    // Marks of 240 and of 241, of 288, which divides a belt cycle and is too long, and up to the text's limit and past it.
     #[test]
     fn platforms_by_marks() -> Result<(), Fail> {
         let mut longest = [b'1'; 263];
@@ -120,6 +120,9 @@ mod tests {
         let mut longer = [b'1'; 264];
         lay(&mut longer, b"engines=1\ntag=0\nmarks=");
         check_eq(answer_to_platform(&longer), (4, 3))?;
+        let mut dividing = [b'1'; 311];
+        lay(&mut dividing, b"engines=1\ntag=0\nmarks=");
+        check_eq(answer_to_platform(&dividing), (4, 3))?;
         let mut most = [b'1'; 4096];
         lay(&mut most, b"engines=1\ntag=0\nmarks=");
         check_eq(answer_to_platform(&most), (4, 3))?;
