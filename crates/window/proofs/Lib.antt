@@ -1,0 +1,5 @@
+pub mod Maxima
+pub mod Paths
+pub mod Longest
+pub mod Settling
+pub mod Weighing

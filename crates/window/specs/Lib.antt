@@ -1,0 +1,5 @@
+pub mod Greatest
+pub mod Path
+pub mod Recurrences
+pub mod Lengths
+pub mod Windows
