@@ -3,3 +3,5 @@ pub mod Paths
 pub mod Longest
 pub mod Settling
 pub mod Weighing
+pub mod Laying
+pub mod Holding

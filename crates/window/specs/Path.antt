@@ -5,15 +5,17 @@
 --   Longest-to ns c w v h        h is the greatest sum over the paths that end at v
 --   Longest-after ns c w v t     t is the greatest sum over the paths that begin at v, without v
 --   Possible ns c d              no path takes more than d ticks
+--   First-possible ns d c        c is the first possible choice
 use mathlib.Core.Path.{_≡_}
 use mathlib.Core.List.{List}
 use mathlib.Core.Bool.{true, cond}
-use Prim.Native.Nat.{ℕ, _+_, _≤_}
+use Prim.Native.Nat.{ℕ, _+_, _≤_, _<_}
 use Rattle.task.specs.declared.node.Node.{Node}
 use Rattle.task.specs.Concrete.{Member}
 use Rattle.task.specs.Graph.{at}
 use Rattle.task.specs.Node.{ticks, sub-task?}
-use Rattle.task.specs.Picks.{by-choice}
+use Rattle.task.specs.declared.node.Numbering.the-variants.{Choice}
+use Rattle.task.specs.Picks.{by-choice, numbers}
 use Rattle.window.specs.declared.layout.Measure.{Measure}
 use Rattle.window.specs.declared.layout.Measure.the-variants.{Work, Count}
 
@@ -41,3 +43,8 @@ pub record Longest-after (ns : List Node) (c : ℕ) (w : ℕ → ℕ) (v t : ℕ
 
 abbrev pub Possible : List Node → ℕ → ℕ → Type 0
 Possible ns c d = (u v s : ℕ) → Path ns c (work ns) u v s → s ≤ d
+
+pub record First-possible (ns : List Node) (d c : ℕ) : Type 0 where
+  pub is-choice : c < numbers Choice ns
+  pub possible : Possible ns c d
+  pub none-before : (b : ℕ) → b < c → Possible ns b d → ⊥

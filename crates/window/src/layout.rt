@@ -32,3 +32,10 @@ pub enum Measure {
     Work,
     Count,
 }
+
+/// The lengths and the windows of a concrete graph.
+#[derive(Clone, Copy)]
+pub struct Layout {
+    pub lengths: Lengths,
+    pub windows: Windows,
+}

@@ -2,3 +2,5 @@
 pub mod greatest;
 pub mod layout;
 pub mod lengths;
+pub mod possible;
+pub mod windows;
