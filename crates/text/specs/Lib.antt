@@ -1,0 +1,3 @@
+pub mod Fault
+pub mod Split
+pub mod Value
