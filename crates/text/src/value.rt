@@ -1,11 +1,14 @@
 //! The values of lines.
 ghost use lib.ListN.{getD, length};
+ghost use mathlib.Core.List.{List};
 ghost use mathlib.Core.Path.{_≡_};
 ghost use Prim.Native.Nat.{_<_, _≤_, ℕ};
-ghost use Rattle.std.specs.Options.{Cases};
+ghost use Rattle.std.specs.declared.option.Option.{Option};
+ghost use Rattle.std.specs.Options.{Cases, mapped};
 ghost use Rattle.std.specs.Orderings.{Decides};
 ghost use Rattle.std.specs.Text.{digitValue};
-ghost use Rattle.text.specs.Value.{Numeral};
+ghost use Rattle.text.specs.Value.{Begins, Lower, Numeral, Rises, listed, places};
+use crate::split::cut;
 
 /// Whether there are one to nine bytes, the first of several not a zero.
 fn is_short(bytes: &[u8]) -> bool
@@ -40,4 +43,56 @@ pub(crate) fn number(bytes: &[u8]) -> Option<u32>
         number = number * 10 + digit;
     }
     Some(number)
+}
+
+/// The first number of a list, and what stands after the comma behind it.
+fn first_number(list: &[u8]) -> Option<(u32, Option<&[u8]>)>
+    ensures { λ r. ⌜ Cases r ((n : ℕ) (more : Option (List ℕ)) → Begins n more (now (list .entry)) → ⊥) (λ p. Begins (p .0) (mapped now (p .1)) (now (list .entry))) ⌝ }
+{
+    match cut(list, b',') {
+        Some((front, rest)) => Some((number(front)?, Some(rest))),
+        None => Some((number(list)?, None)),
+    }
+}
+
+/// Whether the bytes are rising numbers with commas between.
+fn is_rising(list: &[u8]) -> bool
+    ensures { λ r. ⌜ Decides r (Rises (λ _. Unit {0}) 0 (now (list .entry))) ⌝ }
+{
+    let mut rest = list;
+    let mut least = 0;
+    loop {
+        let Some((number, more)) = first_number(rest) else {
+            return false;
+        };
+        if number < least {
+            return false;
+        }
+        let Some(later) = more else {
+            return true;
+        };
+        rest = later;
+        least = number + 1;
+    }
+}
+
+/// The numbers of a rising list as a set, unless one is `node` or more.
+pub(crate) fn lower(list: &[u8], node: usize) -> Option<[bool; 24]>
+    requires { ⌜ Rises (λ _. Unit {0}) 0 (now list) ⌝ ∗ ⌜ node < 24 ⌝ }
+    ensures { λ r. ⌜ Cases r (Rises (λ n. n < node) 0 (now (list .entry)) → ⊥) (λ us. (now (list .entry) ≡ listed (places us)) × Lower node us) ⌝ }
+{
+    let mut after = [false; 24];
+    let mut rest = list;
+    loop {
+        let (number, more) = first_number(rest)?;
+        let place = number as usize;
+        if place >= node {
+            return None;
+        }
+        after[place] = true;
+        let Some(later) = more else {
+            return Some(after);
+        };
+        rest = later;
+    }
 }
