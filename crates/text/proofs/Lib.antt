@@ -1,3 +1,5 @@
 pub mod Cuts
 pub mod Numbers
 pub mod Commas
+pub mod Fronts
+pub mod Parting

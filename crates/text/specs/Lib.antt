@@ -1,3 +1,5 @@
 pub mod Fault
 pub mod Split
 pub mod Value
+pub mod Key
+pub mod Texts

@@ -1,4 +1,6 @@
 //! Reading jobs and platforms from text.
 pub mod fault;
+pub mod key;
 pub mod split;
+pub mod texts;
 pub mod value;
