@@ -1,6 +1,7 @@
 -- Which numbers and nodes make a job.
 --   graph j                   the nodes of the job j
---   In-range n t d ns         number n, period t, deadline d and the nodes ns lie in their ranges
+--   Header-fits n t d k       number n, period t, deadline d and k nodes lie in their ranges
+--   In-range n t d ns         so do all numbers and edges of a job of the nodes ns
 --   Made-of n t d ns j        j is the job of these
 --   Flawed n t d ns f         they make none, and f says why: out of range, the first fork at fault, or too many forks
 use mathlib.Core.Path.{_≡_}
@@ -20,11 +21,12 @@ use Rattle.task.specs.Ranges.{fits}
 abbrev pub graph : Job → List Node
 graph j = take (j .count) (j .nodes)
 
+abbrev pub Header-fits : (number period deadline count : ℕ) → Type 0
+Header-fits number period deadline count =
+    (fits (Number number) ≡ true) × (fits (Period period) ≡ true) × (fits (Deadline period deadline) ≡ true) × (fits (Count count) ≡ true)
+
 pub record In-range (number period deadline : ℕ) (ns : List Node) : Type 0 where
-  pub numbered : fits (Number number) ≡ true
-  pub periodic : fits (Period period) ≡ true
-  pub due : fits (Deadline period deadline) ≡ true
-  pub counted : fits (Count (length ns)) ≡ true
+  pub header : Header-fits number period deadline (length ns)
   pub ranged : Numbers-fit ns
   pub upward : Upward ns
 

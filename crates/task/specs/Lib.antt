@@ -3,3 +3,5 @@ pub mod Ranges
 pub mod Graph
 pub mod Nodes
 pub mod Flaws
+pub mod Picks
+pub mod Concrete

@@ -2,6 +2,7 @@
 --   after n        the lower nodes that it comes after: place u is true where it comes after u
 --   ticks n        its work; a fork has none
 --   sub-task? n, alternative? n, conditional? n, fork? n    what it is
+--   covers m n     numbers of the kind m, choices or branches, pick an edge out of n
 --   missing        what stands where there is no node
 --   none, blank    no nodes; the node that fills the table after the last one
 use mathlib.Core.List.{List, []}
@@ -10,6 +11,8 @@ use Prim.Native.Nat.{ℕ}
 use lib.ListN.{replicate}
 use Rattle.task.specs.declared.node.Node.{Node}
 use Rattle.task.specs.declared.node.Node.the-variants.{SubTask, Alternative, Conditional}
+use Rattle.task.specs.declared.node.Numbering.{Numbering}
+use Rattle.task.specs.declared.node.Numbering.the-variants.{Choice, Branch}
 
 abbrev pub after : Node → List Bool
 after (SubTask tag ticks nodes) = nodes
@@ -47,3 +50,7 @@ none = replicate 24 false
 
 abbrev pub blank : Node
 blank = SubTask 0 1 none
+
+abbrev pub covers : Numbering → Node → Bool
+covers Choice n = alternative? n
+covers Branch n = conditional? n

@@ -1,10 +1,10 @@
 -- What makes a job sound.
 --   fork-fits ns v      the node v is no fork, or has an edge in and two or three out
 --   few-forks ns        at most four alternatives and four conditionals
+--   Below v us          every node of us is below v
 --   Numbers-fit ns      the numbers of every node lie in their ranges
+--   Forks-fit ns        every fork is right
 --   Blank-from n ns     from n on the table is blank
---   Sound-nodes ns      the nodes of a job
---   Flawed ns           the first question that the nodes fail, of three
 use mathlib.Core.Path.{_≡_}
 use mathlib.Core.List.{List}
 use mathlib.Core.Bool.{Bool, true, false, cond, _&&_}
@@ -23,6 +23,9 @@ abbrev pub few-forks : List Node → Bool
 few-forks ns =
     leb (count-below (λ v. alternative? (at ns v)) (length ns)) 4
     && leb (count-below (λ v. conditional? (at ns v)) (length ns)) 4
+
+abbrev pub Below : ℕ → List Bool → Type 0
+Below v us = (u : ℕ) → getD us u false ≡ true → u < v
 
 abbrev pub Numbers-fit : List Node → Type 0
 Numbers-fit ns = (v : ℕ) → v < length ns → numbers-fit (at ns v) ≡ true

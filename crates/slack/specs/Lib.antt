@@ -1,0 +1,6 @@
+pub mod Rule
+pub mod Proportional
+pub mod Even
+pub mod Tested
+pub mod ProportionalLaws
+pub mod EvenLaws
