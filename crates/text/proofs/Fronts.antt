@@ -6,7 +6,7 @@ use native.Mathlib.Nat.{zero-add}
 use native.Mathlib.Omega.{arith}
 use lib.ListN.{length, getD, take, drop}
 use Rattle.std.proofs.shelf.Fronts.{front-from-reads}
-use Rattle.std.proofs.shelf.Lists.{take-rest}
+use Rattle.std.proofs.shelf.Lists.{take-rest, drop-all, append-nil}
 use Rattle.text.specs.declared.key.Key.{Key}
 use Rattle.text.specs.Key.{key-bytes}
 
@@ -30,3 +30,8 @@ opened k key n bs e m f =
     let long = front-long 0 p bs f in
     let reads : (i : ℕ) → i < length p → getD bs i 0 ≡ getD p i 0 = λ i l. ap (λ n. getD bs n 0) (sym (zero-add i)) ∙ front-reads 0 p bs f i l in
     front-from-reads 0 bs p (omega arith) reads ∙ (ap (λ n. p ++ drop n bs) (sym m) ∙ (ap (λ xs. p ++ xs) (sym (take-rest bs n)) ∙ ap (λ x. key-bytes x ++ take (length bs - n) (drop n bs)) (sym e)))
+
+pub whole : (p bs : List ℕ) → length bs ≡ length p → Front 0 p bs → bs ≡ p
+whole p bs long f =
+    let reads : (i : ℕ) → i < length p → getD bs i 0 ≡ getD p i 0 = λ i l. ap (λ n. getD bs n 0) (sym (zero-add i)) ∙ front-reads 0 p bs f i l in
+    front-from-reads 0 bs p (omega arith) reads ∙ (ap (λ xs. p ++ xs) (drop-all (length p) bs (omega arith)) ∙ append-nil p)

@@ -3,3 +3,4 @@ pub mod Numbers
 pub mod Commas
 pub mod Fronts
 pub mod Parting
+pub mod Marking

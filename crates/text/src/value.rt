@@ -7,8 +7,36 @@ ghost use Rattle.std.specs.declared.option.Option.{Option};
 ghost use Rattle.std.specs.Options.{Cases, mapped};
 ghost use Rattle.std.specs.Orderings.{Decides};
 ghost use Rattle.std.specs.Text.{digitValue};
-ghost use Rattle.text.specs.Value.{Begins, Lower, Numeral, Rises, listed, places};
+ghost use Rattle.text.specs.declared.value.Kind.{Kind};
+ghost use Rattle.text.specs.Value.{Begins, Form, Lower, Marked, Means, Numeral, Rises, listed, places, word};
+use crate::key::Sort;
 use crate::split::cut;
+use task::node::After;
+use task::node::NODES;
+
+/// The value of a line: a number, or a piece of the text that it was read from.
+#[derive(Clone, Copy)]
+pub enum Value<'a> {
+    Number(u32),
+    Word(&'a [u8]),
+    List(&'a [u8]),
+    Dash,
+}
+
+/// The value of a line, with the line's number from 1.
+#[derive(Clone, Copy)]
+pub struct Line<'a> {
+    pub number: u32,
+    pub value: Value<'a>,
+}
+
+/// What a node is.
+#[derive(Clone, Copy)]
+pub enum Kind {
+    SubTask,
+    Alternative,
+    Conditional,
+}
 
 /// Whether there are one to nine bytes, the first of several not a zero.
 fn is_short(bytes: &[u8]) -> bool
@@ -77,11 +105,11 @@ fn is_rising(list: &[u8]) -> bool
 }
 
 /// The numbers of a rising list as a set, unless one is `node` or more.
-pub(crate) fn lower(list: &[u8], node: usize) -> Option<[bool; 24]>
+pub(crate) fn lower(list: &[u8], node: usize) -> Option<After>
     requires { ⌜ Rises (λ _. Unit {0}) 0 (now list) ⌝ ∗ ⌜ node < 24 ⌝ }
     ensures { λ r. ⌜ Cases r (Rises (λ n. n < node) 0 (now (list .entry)) → ⊥) (λ us. (now (list .entry) ≡ listed (places us)) × Lower node us) ⌝ }
 {
-    let mut after = [false; 24];
+    let mut after = [false; NODES];
     let mut rest = list;
     loop {
         let (number, more) = first_number(rest)?;
@@ -94,5 +122,51 @@ pub(crate) fn lower(list: &[u8], node: usize) -> Option<[bool; 24]>
             return Some(after);
         };
         rest = later;
+    }
+}
+
+/// The kind that the word names.
+pub(crate) fn kind_of(bytes: &[u8]) -> Option<Kind>
+    ensures { λ r. ⌜ Cases r ((k : Kind) → now (bytes .entry) ≡ word k → ⊥) (λ k. now (bytes .entry) ≡ word k) ⌝ }
+{
+    match bytes {
+        b"subtask" => Some(Kind::SubTask),
+        b"alternative" => Some(Kind::Alternative),
+        b"conditional" => Some(Kind::Conditional),
+        _ => None,
+    }
+}
+
+/// Whether the bytes are zeros and ones, one or more.
+fn are_marks(bytes: &[u8]) -> bool
+    ensures { λ r. ⌜ Decides r (Marked (λ _. Unit {0}) (now (bytes .entry))) ⌝ }
+{
+    for byte in bytes {
+        if *byte != b'0' && *byte != b'1' {
+            return false;
+        }
+    }
+    bytes.len() > 0
+}
+
+impl Sort {
+    /// The value that the bytes write.
+    pub fn read(self, bytes: &[u8]) -> Option<Value<'_>>
+        ensures { λ r. ⌜ Cases r (Form self (now (bytes .entry)) → ⊥) (λ value. Means self (now (bytes .entry)) value) ⌝ }
+    {
+        match self {
+            Sort::Number => Some(Value::Number(number(bytes)?)),
+            Sort::Kind => match kind_of(bytes) {
+                Some(_) => Some(Value::Word(bytes)),
+                None => None,
+            },
+            Sort::List => match bytes {
+                b"-" => Some(Value::Dash),
+                _ if is_rising(bytes) => Some(Value::List(bytes)),
+                _ => None,
+            },
+            Sort::Marks if are_marks(bytes) => Some(Value::Word(bytes)),
+            Sort::Marks => None,
+        }
     }
 }

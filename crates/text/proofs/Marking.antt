@@ -1,0 +1,45 @@
+-- Zeros and ones.
+use mathlib.Core.Path.{_≡_, refl, sym, ap, subst, _∙_}
+use mathlib.Core.List.{List, [], _∷_, _++_, map}
+use mathlib.Core.Bool.{Bool, true, false, cond}
+use mathlib.Core.Logic.{_⊎_, inl, inr}
+use Prim.Native.Nat.{ℕ, _+_, _<_, _≤_}
+use native.Mathlib.Omega.{arith}
+use lib.Dec.{eqb}
+use lib.ListN.{length, getD, take}
+use Rattle.std.specs.shelf.Lists.{All}
+use Rattle.std.proofs.shelf.Lists.{length-map}
+use Rattle.std.proofs.shelf.Tests.{eq-eqb, ne-eqb}
+use Rattle.text.specs.Value.{Marked, mark-bytes}
+
+abbrev pub Bit : ℕ → Type 0
+Bit b = (b ≡ 48) ⊎ (b ≡ 49)
+
+-- the marks that the bytes write
+abbrev pub ones : List ℕ → List Bool
+ones bs = map (λ b. eqb b 49) bs
+
+bit-mark : (b : ℕ) → Bit b → b ≡ cond (eqb b 49) 49 48
+bit-mark b (inl e) = rw (ne-eqb b 49 (λ x. omega arith)) e
+bit-mark b (inr e) = rw (eq-eqb b 49 e) e
+
+pub bits-written : (bs : List ℕ) → All Bit bs → bs ≡ mark-bytes (ones bs)
+bits-written [] a = refl
+bits-written (b ∷ bs) a = let head = bit-mark b (a .0) in let rest = bits-written bs (a .1) in cc
+
+mark-bit : (m : Bool) → Bit (cond m 49 48)
+mark-bit true = inr refl
+mark-bit false = inl refl
+
+written-bits : (ms : List Bool) → All Bit (mark-bytes ms)
+written-bits [] = tt
+written-bits (m ∷ ms) = (mark-bit m, written-bits ms)
+
+pub marked-bits : (P : List Bool → Type 0) (bs : List ℕ) → Marked P bs → All Bit bs
+marked-bits P bs m = subst (All Bit) (sym (m .written)) (written-bits (m .marks))
+
+pub marked-some : (P : List Bool → Type 0) (bs : List ℕ) → Marked P bs → 0 < length bs
+marked-some P bs m = omega (arith, ap length (m .written), length-map {B = ℕ} (m .marks) (λ m. cond m 49 48), m .some)
+
+pub marked-from : (bs : List ℕ) → All Bit bs → 0 < length bs → Marked (λ _. Unit {0}) bs
+marked-from bs a l = record { marks = ones bs; some = omega (arith, length-map bs (λ b. eqb b 49)); written = bits-written bs a; all = tt }
