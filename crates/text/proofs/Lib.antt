@@ -4,3 +4,4 @@ pub mod Commas
 pub mod Fronts
 pub mod Parting
 pub mod Marking
+pub mod Taking

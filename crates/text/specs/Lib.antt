@@ -3,3 +3,5 @@ pub mod Split
 pub mod Value
 pub mod Key
 pub mod Texts
+pub mod Slots
+pub mod Lines

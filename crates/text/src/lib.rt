@@ -1,6 +1,7 @@
 //! Reading jobs and platforms from text.
 pub mod fault;
 pub mod key;
+mod lines;
 pub mod split;
 pub mod texts;
 pub mod value;
