@@ -2,6 +2,7 @@
 use mathlib.Core.Path.{_≡_, refl, sym, ap, subst, _∙_}
 use mathlib.Core.List.{List, [], _∷_, _++_}
 use Prim.Native.Nat.{ℕ, zero, suc, _+_, _<_, _≤_}
+use native.Mathlib.Nat.{add-zero}
 use native.Mathlib.Numerals.{add-one}
 use native.Mathlib.Omega.{arith}
 use mathlib.Core.Bool.{Bool, true, false}
@@ -18,7 +19,7 @@ use Rattle.std.specs.Text.{digitValue}
 use Rattle.std.specs.shelf.Lists.{All}
 use Rattle.std.proofs.shelf.Numerals.{digit-from-value}
 use Rattle.text.specs.Split.{Lacks, Cut}
-use Rattle.text.specs.Value.{Small, Lower, Numeral, Begins, Rises, Rising, commas, listed, places, places-from}
+use Rattle.text.specs.Value.{Small, Lower, Numeral, Begins, Rises, Rising, Listed, commas, listed, places, places-from}
 use Rattle.text.proofs.Cuts.{lacks-none, cut-front, cut-back}
 use Rattle.text.proofs.Numbers.{numeral-digits, numeral-same}
 
@@ -168,3 +169,48 @@ lowered-all node list us rest n v l w b =
       record {
         size = length-set us n true ∙ w .size;
         below = λ u h. elim (cases-eq u n) [ inl same ↦ omega arith | inr other ↦ w .below u (sym (getD-set-other us n u true false other) ∙ h) ] })
+
+-- the places of a set as a list
+rising-from : (j k : ℕ) (ns : List ℕ) → j ≤ k → Rising k ns → Rising j ns
+rising-from j k [] l up = tt
+rising-from j k (n ∷ ns) l up = (omega (arith, up .0), up .1)
+
+places-rising : (k : ℕ) (us : List Bool) → Rising k (places-from k us)
+places-rising k [] = tt
+places-rising k (true ∷ us) = (omega arith, places-rising (suc k) us)
+places-rising k (false ∷ us) = rising-from k (suc k) (places-from (suc k) us) (omega arith) (places-rising (suc k) us)
+
+places-all : (P : ℕ → Type 0) (k : ℕ) (us : List Bool) → ((u : ℕ) → getD us u false ≡ true → P (k + u)) → All P (places-from k us)
+places-all P k [] h = tt
+places-all P k (true ∷ us) h = (subst P (add-zero k) (h 0 refl), places-all P (suc k) us (λ u e. subst P (let z : k + suc u ≡ suc k + u = omega arith in z) (h (suc u) e)))
+places-all P k (false ∷ us) h = places-all P (suc k) us (λ u e. subst P (let z : k + suc u ≡ suc k + u = omega arith in z) (h (suc u) e))
+
+pub listed-places : (v : ℕ) (us : List Bool) → v < 24 → Lower v us → Listed (λ n. n < v) (listed (places us))
+listed-places v us l low = record {
+    numbers = places us;
+    rising = places-rising 0 us;
+    small = places-all Small 0 us (λ u e. omega (arith, low .below u e));
+    all = places-all (λ n. n < v) 0 us (λ u e. omega (arith, low .below u e));
+    written = refl }
+
+pub lower-none : (v : ℕ) → Lower v (replicate 24 false)
+lower-none v = record { size = refl; below = λ u h. absurd (false≢true (sym (clear-none 24 u) ∙ h)) }
+
+-- a dash is no number
+dash-none : (xs more : List ℕ) → Lacks 45 xs → 45 ∷ [] ≡ xs ++ 44 ∷ more → ⊥
+dash-none [] more l e = let z : _≡_ {A = ℕ} 45 44 = cc in omega arith
+dash-none (x ∷ xs) more l e = l .0 (cc)
+
+dash-begins : (bs : List ℕ) → bs ≡ 45 ∷ [] → (n : ℕ) (more : Option (List ℕ)) → Begins n more bs → ⊥
+dash-begins bs e n None b = lacks-none 45 (decimal n) [] [] (lacks-decimal 45 (λ p q. omega arith) n (b .0)) (sym (b .1) ∙ e)
+dash-begins bs e n (Some more) b = dash-none (decimal n) more (lacks-decimal 45 (λ p q. omega arith) n (b .0)) (sym e ∙ b .1)
+
+pub rises-listed : (P : ℕ → Type 0) (bs : List ℕ) → Rises P 0 bs → Listed P bs
+rises-listed P bs r = record { numbers = r .first ∷ r .more; rising = r .rising; small = r .small; all = r .all; written = r .written }
+
+pub listed-rises : (P : ℕ → Type 0) (bs : List ℕ) → Rises (λ _. Unit {0}) 0 bs → Listed P bs → Rises P 0 bs
+listed-rises P bs r l = go (l .numbers) (l .rising) (l .small) (l .all) (l .written)
+  where
+    go : (ns : List ℕ) → Rising 0 ns → All Small ns → All P ns → bs ≡ listed ns → Rises P 0 bs
+    go [] up s p e = absurd (rises-begins (λ _. Unit {0}) 0 bs r (dash-begins bs e))
+    go (n ∷ ns) up s p e = record { first = n; more = ns; rising = up; small = s; all = p; written = e }

@@ -5,3 +5,4 @@ pub mod Fronts
 pub mod Parting
 pub mod Marking
 pub mod Taking
+pub mod Dues

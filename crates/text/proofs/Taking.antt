@@ -6,7 +6,7 @@ use native.Mathlib.Omega.{arith}
 use lib.ListN.{length}
 use Rattle.std.specs.shelf.Lists.{All}
 use Rattle.std.proofs.shelf.Elements.{all-append, all-drop}
-use Rattle.std.proofs.shelf.Lists.{append-assoc, drop-at}
+use Rattle.std.proofs.shelf.Lists.{append-assoc, drop-at, length-append}
 use Rattle.text.specs.declared.fault.Fault.{Fault}
 use Rattle.text.specs.declared.key.Key.{Key}
 use Rattle.text.specs.declared.key.Key.the-variants.{Job, Period, Deadline, Nodes, Kind, Tag, Ticks, After, Engines, Marks}
@@ -41,3 +41,7 @@ pub taken-from : (k : Key) (bs front rest value : List ℕ) → Cut 10 bs front 
 taken-from k bs front rest value cut e = record {
     ended = subst (Lacks 10) (drop-at (key-bytes k) value (length (key-bytes k)) refl) (all-drop _ (length (key-bytes k)) (key-bytes k ++ value) (subst (Lacks 10) e (cut .first)));
     written = cut .parts ∙ (ap (λ xs. xs ++ 10 ∷ rest) e ∙ append-assoc (key-bytes k) value (10 ∷ rest)) }
+
+-- a line takes a byte at least
+pub cut-room : (n : ℕ) (bs front rest : List ℕ) → Cut 10 bs front rest → n + length bs ≤ 4096 → (n + 1) + length rest ≤ 4096
+cut-room n bs front rest cut l = omega (arith, ap length (cut .parts), length-append front (10 ∷ rest))

@@ -4,4 +4,4 @@ pub mod Value
 pub mod Key
 pub mod Texts
 pub mod Slots
-pub mod Lines
+pub mod Take

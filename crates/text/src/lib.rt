@@ -3,5 +3,6 @@ pub mod fault;
 pub mod key;
 mod lines;
 pub mod split;
+mod take;
 pub mod texts;
 pub mod value;
