@@ -6,3 +6,6 @@ pub mod Parting
 pub mod Marking
 pub mod Taking
 pub mod Dues
+pub mod Following
+pub mod Graphs
+pub mod Drafts

@@ -5,3 +5,4 @@ pub mod Key
 pub mod Texts
 pub mod Slots
 pub mod Take
+pub mod JobText

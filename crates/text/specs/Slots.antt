@@ -9,7 +9,12 @@
 --   Took ss bs n cs m        bs begins with the lines ss, all in range; cs stands after them; line n was the last before, m is the last of them
 --   Fails k l bs n f         bs does not begin with a line of the key k that is in range, and f says why, at line n
 --   Stops ss bs n f          bs begins with some of the lines ss, and the next fails by f; line n was the last before
+--   Overruns ss bs n f       bs begins with all the lines ss, and more stands after them: f says so, at the line after the last
+--   Halts ss bs f            the text bs is not just the lines ss, and f says why
+--   Whole ss bs              the text bs is just the lines ss, all in range
+--   Sized bs, Missized bs    a text has 1 to 4,096 bytes; or it has not
 use mathlib.Core.Path.{_≡_}
+use mathlib.Core.Logic.{_⊎_}
 use mathlib.Core.List.{List, [], _∷_, _++_}
 use mathlib.Core.Bool.{Bool, true, false, _&&_}
 use Prim.Native.Nat.{ℕ, _+_, _%_, _<_, _≤_}
@@ -96,3 +101,23 @@ pub record Stops (ss : List Slot) (bs : List ℕ) (n : ℕ) (f : Fault) : Type 0
   pub last : ℕ
   pub took : Took before bs n rest last
   pub fails : Fails (due .key) (due .limit) rest (last + 1) f
+
+pub record Overruns (ss : List Slot) (bs : List ℕ) (n : ℕ) (f : Fault) : Type 0 where
+  pub rest : List ℕ
+  pub last : ℕ
+  pub took : Took ss bs n rest last
+  pub more : 0 < length rest
+  pub fault : f ≡ Line (last + 1)
+
+abbrev pub Halts : List Slot → List ℕ → Fault → Type 0
+Halts ss bs f = Stops ss bs 0 f ⊎ Overruns ss bs 0 f
+
+pub record Whole (ss : List Slot) (bs : List ℕ) : Type 0 where
+  pub written : bs ≡ text-of ss
+  pub ranged : All In-range ss
+
+abbrev pub Sized : List ℕ → Type 0
+Sized bs = (0 < length bs) × (length bs ≤ 4096)
+
+abbrev pub Missized : List ℕ → Type 0
+Missized bs = (length bs ≡ 0) ⊎ (4096 < length bs)

@@ -1,5 +1,6 @@
 //! Reading jobs and platforms from text.
 pub mod fault;
+pub mod job_text;
 pub mod key;
 mod lines;
 pub mod split;

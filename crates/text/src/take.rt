@@ -1,9 +1,10 @@
 //! Taking the due lines of a text.
 ghost use lib.Dec.{eqb, leb};
+ghost use lib.ListN.{length};
 ghost use mathlib.Core.Bool.{_&&_, true};
 ghost use mathlib.Core.List.{[], _∷_};
 ghost use mathlib.Core.Path.{_≡_};
-ghost use Prim.Native.Nat.{_%_, _<_, ℕ};
+ghost use Prim.Native.Nat.{_%_, _+_, _<_, ℕ};
 ghost use Rattle.std.specs.Orderings.{Decides};
 ghost use Rattle.std.specs.Results.{Cases};
 ghost use Rattle.std.specs.Written.{decimal};
@@ -130,5 +131,14 @@ impl<'a> Lines<'a> {
             Value::Word(marks) if are_marks_fit(marks) => Ok(marks),
             _ => Err(Fault::Range { line: line.number }),
         }
+    }
+    /// Nothing is to stand after the last line.
+    pub(crate) fn end(&self) -> Result<(), Fault>
+        ensures { λ r. ⌜ Cases r (λ _. now (now (self .entry) .rest) ≡ []) (λ f. (0 < length (now (now (self .entry) .rest))) × (f ≡ Fault.Line (now (self .entry) .number + 1))) ⌝ }
+    {
+        if self.rest.len() > 0 {
+            return Err(Fault::Line { line: self.number + 1 });
+        }
+        Ok(())
     }
 }
