@@ -1,0 +1,11 @@
+pub mod Cuts
+pub mod Numbers
+pub mod Commas
+pub mod Fronts
+pub mod Parting
+pub mod Marking
+pub mod Taking
+pub mod Dues
+pub mod Following
+pub mod Graphs
+pub mod Drafts

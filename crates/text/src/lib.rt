@@ -1,0 +1,9 @@
+//! Reading jobs and platforms from text.
+pub mod fault;
+pub mod job_text;
+pub mod key;
+mod lines;
+pub mod split;
+mod take;
+pub mod texts;
+pub mod value;
