@@ -67,14 +67,16 @@ forks-refused bs Forks w s whole x = record { sized = s; says = w; whole = whole
 -- what was read lies in its ranges
 upward : (ns : List Node) → Nodes-fit ns → Upward ns
 upward ns fit u v e = elim (cases-lt v (length ns)) [
-    inl l ↦ fit v l .below u e
-  | inr l ↦ absurd (false≢true (sym (ap (λ n. getD (after n) u false) (getD-past ns v missing l)) ∙ e)) ]
+  | inl l ↦ fit v l .below u e
+  | inr l ↦ absurd (false≢true (sym (ap (λ n. getD (after n) u false) (getD-past ns v missing l)) ∙ e))
+]
 
 pub in-range : (h : Header) (ns : List Node) → length ns ≡ h .count → Header-fits (h .number) (h .period) (h .deadline) (h .count) → Nodes-fit ns → In-range (h .number) (h .period) (h .deadline) ns
 in-range h ns e fit nodes = record {
-    header = subst (Header-fits (h .number) (h .period) (h .deadline)) (sym e) fit;
-    ranged = λ v l. nodes v l .numbers;
-    upward = upward ns nodes }
+  header = subst (Header-fits (h .number) (h .period) (h .deadline)) (sym e) fit;
+  ranged = λ v l. nodes v l .numbers;
+  upward = upward ns nodes;
+}
 
 -- the job that was made says what was read
 same-slots : (v w : Written) → v .number ≡ w .number → v .period ≡ w .period → v .deadline ≡ w .deadline → v .nodes ≡ w .nodes → slots v ≡ slots w
@@ -86,5 +88,6 @@ same-slots v w a b c d =
 
 pub made-reads : (bs : List ℕ) (h : Header) (ns : List Node) (j : Job) → Sized bs → Whole (slots (draft h ns)) bs → Made-of (h .number) (h .period) (h .deadline) ns j → Reads bs j
 made-reads bs h ns j s whole made = record {
-    sized = s;
-    whole = subst (λ ss. Whole ss bs) (sym (same-slots (written j) (draft h ns) (made .its-number) (made .its-period) (made .its-deadline) (made .its-nodes))) whole }
+  sized = s;
+  whole = subst (λ ss. Whole ss bs) (sym (same-slots (written j) (draft h ns) (made .its-number) (made .its-period) (made .its-deadline) (made .its-nodes))) whole;
+}

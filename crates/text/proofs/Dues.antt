@@ -25,10 +25,11 @@ use Rattle.text.proofs.Numbers.{numeral-same}
 
 pub due-took : (k : Key) (limit : ℕ) (l : Lines) (line : Line) (m : Lines) (bs : List ℕ) (d : Due k l line m) → d .bytes ≡ bs → Ranged k limit bs → Takes (slot k limit bs ∷ []) l m
 due-took k limit l line m bs d e r = record {
-    written = d .taken .written ∙ (ap (λ xs. key-bytes k ++ (xs ++ (10 ∷ m .rest .now))) e
+  written = d .taken .written ∙ (ap (λ xs. key-bytes k ++ (xs ++ (10 ∷ m .rest .now))) e
       ∙ (ap (λ xs. key-bytes k ++ xs) (sym (append-assoc bs (10 ∷ []) (m .rest .now))) ∙ sym (append-assoc (key-bytes k) (bs ++ 10 ∷ []) (m .rest .now))));
-    ranged = (r, tt);
-    counted = d .counted }
+  ranged = (r, tt);
+  counted = d .counted;
+}
 
 pub due-missed : (k : Key) (limit : ℕ) (l : Lines) (line : Line) (m : Lines) (d : Due k l line m) → Form (sort-of k) (d .bytes) → (Ranged k limit (d .bytes) → ⊥) → Misses k limit l (Range (line .number))
 due-missed k limit l line m d form no′ = (d .placed, (d .bytes, m .rest .now, d .taken, form, no′))
@@ -45,8 +46,8 @@ pub number-missed : (k : Key) (limit : ℕ) (l : Lines) (line : Line) (m : Lines
 number-missed k limit l line m n s d e fit =
     let w = number-of k l line m n d e in
     due-missed k limit l line m d (subst (λ x. Form x (d .bytes)) (sym s) (n, w))
-      (λ r. let other = subst (λ x. Ranged-as x k limit (d .bytes)) s r in
-        both-ways _ fit (ap (number-fits k limit) (numeral-same n (other .0) (d .bytes) w (other .1)) ∙ other .2))
+    (λ r. let other = subst (λ x. Ranged-as x k limit (d .bytes)) s r in
+    both-ways _ fit (ap (number-fits k limit) (numeral-same n (other .0) (d .bytes) w (other .1)) ∙ other .2))
 
 -- a line whose sort is a number has one for its value
 pub number-there : (s : Sort) (bs : List ℕ) (v : Value) → s ≡ sorts.the-variants.Number → Means s bs v → ((n : ℕ) → v ≡ values.the-variants.Number n → ⊥) → ⊥

@@ -22,12 +22,14 @@ own = numerals-by-value (Digits 10) tells-digits
 
 short-decimal : (n : ℕ) → n < 1000000000 → Short (decimal n)
 short-decimal n l =
-    let big : n < 2 ^ 64 = omega arith in
-    ((decimal-reads n big) .0 .0,
+    let big : n < 2 ^ 64 = omega arith in (
+      (decimal-reads n big) .0 .0,
       length-decimal-le 9 n (omega arith) (omega arith) big,
       λ e. elim (cases-eq n 0) [
-        inl z ↦ subst (λ m. length (decimal m) ≡ 1) (sym z) (ap length (decimal-digit 0 (omega arith)))
-      | inr p ↦ omega (arith, first-decimal n (omega arith) big) ])
+        | inl z ↦ subst (λ m. length (decimal m) ≡ 1) (sym z) (ap length (decimal-digit 0 (omega arith)))
+        | inr p ↦ omega (arith, first-decimal n (omega arith) big)
+      ],
+    )
 
 pub numeral-short : (n : ℕ) (bs : List ℕ) → Numeral n bs → Short bs
 numeral-short n bs w = subst Short (sym (w .written)) (short-decimal n (w .small))

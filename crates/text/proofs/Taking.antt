@@ -39,8 +39,9 @@ no-key k bs front rest cut none value more t =
 
 pub taken-from : (k : Key) (bs front rest value : List ℕ) → Cut 10 bs front rest → front ≡ key-bytes k ++ value → Taken k bs value rest
 taken-from k bs front rest value cut e = record {
-    ended = subst (Lacks 10) (drop-at (key-bytes k) value (length (key-bytes k)) refl) (all-drop _ (length (key-bytes k)) (key-bytes k ++ value) (subst (Lacks 10) e (cut .first)));
-    written = cut .parts ∙ (ap (λ xs. xs ++ 10 ∷ rest) e ∙ append-assoc (key-bytes k) value (10 ∷ rest)) }
+  ended = subst (Lacks 10) (drop-at (key-bytes k) value (length (key-bytes k)) refl) (all-drop _ (length (key-bytes k)) (key-bytes k ++ value) (subst (Lacks 10) e (cut .first)));
+  written = cut .parts ∙ (ap (λ xs. xs ++ 10 ∷ rest) e ∙ append-assoc (key-bytes k) value (10 ∷ rest));
+}
 
 -- a line takes a byte at least
 pub cut-room : (n : ℕ) (bs front rest : List ℕ) → Cut 10 bs front rest → n + length bs ≤ 4096 → (n + 1) + length rest ≤ 4096

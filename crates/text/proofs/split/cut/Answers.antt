@@ -17,7 +17,7 @@ returns-then-byte-stop c =
     let bs = c .args .bytes .now in
     let i = c .loop-i .i in
     let split : bs ≡ take i bs ++ (c .args .stop ∷ drop (i + 1) bs) =
-      sym (take-append-drop i bs) ∙ ap (λ ys. take i bs ++ ys) (drop-more bs i 0 (c .loop-i-test .taken) ∙ ap (λ x. x ∷ drop (i + 1) bs) (c .if-byte-stop .taken)) in
+    sym (take-append-drop i bs) ∙ ap (λ ys. take i bs ++ ys) (drop-more bs i 0 (c .loop-i-test .taken) ∙ ap (λ x. x ∷ drop (i + 1) bs) (c .if-byte-stop .taken)) in
     rw (sub-zero, take-rest) (record { parts = split; first = c .loop-i .inv })
 
 pub returns : need.returns

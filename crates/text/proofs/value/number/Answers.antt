@@ -34,9 +34,10 @@ pub loop-byte-again : need.loop-byte-again
 loop-byte-again c =
     let bs = c .args .bytes .now in
     let i = c .loop-byte .byte-index in
-    let is = c .in-Continue-digit .ensures tt in
-    (cc (value-more 10 bs i (c .loop-byte-test .taken), c .loop-byte .inv .0, is .0),
-      digits-more 10 bs i (c .loop-byte-test .taken) (c .loop-byte .inv .1) (subst (λ d. d < 10) (is .0) (is .1)))
+    let is = c .in-Continue-digit .ensures tt in (
+      cc (value-more 10 bs i (c .loop-byte-test .taken), c .loop-byte .inv .0, is .0),
+      digits-more 10 bs i (c .loop-byte-test .taken) (c .loop-byte .inv .1) (subst (λ d. d < 10) (is .0) (is .1)),
+    )
 
 pub returns : need.returns
 returns c =

@@ -13,4 +13,3 @@ returns-in-Number c =
 
 pub returns-in-rest : need.returns-in-rest
 returns-in-rest c = number-missed _ _ _ _ _ _ (c .pre) (c .in-Continue-line .ensures tt) (c .in-Number .is) (sym (c .if-fits .ensures tt))
-

@@ -1,0 +1,3 @@
+//! What the seating program prints of a job text.
+pub mod answer;
+pub mod lines;
