@@ -126,7 +126,7 @@ pub listed-push : (ns : List ℕ) (n : ℕ) → listed (ns ++ n ∷ []) ≡ comm
 listed-push [] n = refl
 listed-push (m ∷ ns) n = refl
 
-clear-none : (n u : ℕ) → getD (replicate n false) u false ≡ false
+pub clear-none : (n u : ℕ) → getD (replicate n false) u false ≡ false
 clear-none zero u = refl
 clear-none (suc n) zero = refl
 clear-none (suc n) (suc u) = clear-none n u

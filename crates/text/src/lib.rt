@@ -3,6 +3,7 @@ pub mod fault;
 pub mod job_text;
 pub mod key;
 mod lines;
+pub mod platform_text;
 pub mod split;
 mod take;
 pub mod texts;
