@@ -15,7 +15,6 @@ use Rattle.std.proofs.shelf.Tests.{true≢false, false≢true, cases-eq}
 use Rattle.std.specs.Options.{mapped}
 use Rattle.std.specs.Reads.{Digits}
 use Rattle.std.specs.Written.{decimal}
-use Rattle.std.specs.Text.{digitValue}
 use Rattle.std.specs.shelf.Lists.{All}
 use Rattle.std.proofs.shelf.Numerals.{digit-from-value}
 use Rattle.text.specs.Split.{Lacks, Cut}
@@ -62,8 +61,14 @@ rises-one P k n bs b l p = record { first = n; more = []; rising = (l, tt); smal
 
 pub rises-more : (P : ℕ → Type 0) (k n : ℕ) (more bs : List ℕ) → Begins n (Some more) bs → k ≤ n → P n → Rises P (n + 1) more → Rises P k bs
 rises-more P k n more bs b l p r =
-    record { first = n; more = r .first ∷ r .more; rising = (l, subst (λ x. Rising x (r .first ∷ r .more)) (add-one n) (r .rising)); small = (b .0, r .small); all = (p, r .all);
-      written = b .1 ∙ ap (λ xs. decimal n ++ 44 ∷ xs) (r .written) }
+    record {
+      first = n;
+      more = r .first ∷ r .more;
+      rising = (l, subst (λ x. Rising x (r .first ∷ r .more)) (add-one n) (r .rising));
+      small = (b .0, r .small);
+      all = (p, r .all);
+      written = b .1 ∙ ap (λ xs. decimal n ++ 44 ∷ xs) (r .written);
+    }
 
 same-number : (m n : ℕ) → Small m → Small n → decimal m ≡ decimal n → m ≡ n
 same-number m n s t e = numeral-same m n (decimal m) (record { small = s; written = refl }) (record { small = t; written = e })
@@ -81,11 +86,13 @@ rises-rest P k n more bs b r = go (r .first) (r .more) (r .rising) (r .small) (r
     go : (m : ℕ) (ms : List ℕ) → Rising k (m ∷ ms) → All Small (m ∷ ms) → All P (m ∷ ms) → bs ≡ commas (m ∷ ms) → (k ≤ n) × P n × Rises P (n + 1) more
     go m [] up s p e = absurd (lacks-none 44 (decimal m) (decimal n) more (lacks-comma m (s .0)) (sym e ∙ b .1))
     go m (o ∷ ms) up s p e =
-      let both = sym e ∙ b .1 in
-      let same = same-number m n (s .0) (b .0) (cut-front 44 (decimal m) (commas (o ∷ ms)) (decimal n) more (lacks-comma m (s .0)) (lacks-comma n (b .0)) both) in
-      let rest = cut-back 44 (decimal m) (commas (o ∷ ms)) (decimal n) more (lacks-comma m (s .0)) (lacks-comma n (b .0)) both in
-      (omega (arith, up .0), subst P same (p .0),
-        record { first = o; more = ms; rising = subst (λ x. Rising x (o ∷ ms)) (ap suc same ∙ sym (add-one n)) (up .1); small = s .1; all = p .1; written = sym rest })
+        let both = sym e ∙ b .1 in
+        let same = same-number m n (s .0) (b .0) (cut-front 44 (decimal m) (commas (o ∷ ms)) (decimal n) more (lacks-comma m (s .0)) (lacks-comma n (b .0)) both) in
+        let rest = cut-back 44 (decimal m) (commas (o ∷ ms)) (decimal n) more (lacks-comma m (s .0)) (lacks-comma n (b .0)) both in (
+          omega (arith, up .0),
+          subst P same (p .0),
+          record { first = o; more = ms; rising = subst (λ x. Rising x (o ∷ ms)) (ap suc same ∙ sym (add-one n)) (up .1); small = s .1; all = p .1; written = sym rest },
+        )
 
 pub rises-bounds : (P : ℕ → Type 0) (k n : ℕ) (more : Option (List ℕ)) (bs : List ℕ) → Begins n more bs → Rises P k bs → (k ≤ n) × P n
 rises-bounds P k n None bs b r = rises-alone P k n bs b r
@@ -158,17 +165,20 @@ lowered-more node list us rest later n v l w b =
       below = λ u h. elim (cases-eq u n) [ inl same ↦ omega arith | inr other ↦ w .below u (sym (getD-set-other us n u true false other) ∙ h) ];
       lead = λ all. rises-rest (λ m. m < node) (w .least) n later rest b (w .lead all) .2;
       whole = λ m ms e.
-        w .whole n (m ∷ ms) (b .1 ∙ ap (λ xs. decimal n ++ 44 ∷ xs) e) ∙ ap commas (sym (append-assoc (places us) (n ∷ []) (m ∷ ms)) ∙ ap (λ xs. xs ++ m ∷ ms) (sym grown)) }
+          w .whole n (m ∷ ms) (b .1 ∙ ap (λ xs. decimal n ++ 44 ∷ xs) e) ∙ ap commas (sym (append-assoc (places us) (n ∷ []) (m ∷ ms)) ∙ ap (λ xs. xs ++ m ∷ ms) (sym grown));
+    }
 
 pub lowered-all : (node : ℕ) (list : List ℕ) (us : List Bool) (rest : List ℕ) (n : ℕ) → node < 24 → n < node → Lowered node list us rest → Begins n None rest → (list ≡ listed (places (set us n true))) × Lower node (set us n true)
 lowered-all node list us rest n v l w b =
     let next = rises-alone (λ _. Unit {0}) (w .least) n rest b (w .formed) in
     let in′ : n < length us = omega (arith, w .size) in
-    let grown = places-set n us in′ (λ u h. w .clear u (omega (arith, next .0))) in
-    (w .whole n [] (b .1) ∙ (sym (listed-push (places us) n) ∙ ap listed (sym grown)),
+    let grown = places-set n us in′ (λ u h. w .clear u (omega (arith, next .0))) in (
+      w .whole n [] (b .1) ∙ (sym (listed-push (places us) n) ∙ ap listed (sym grown)),
       record {
         size = length-set us n true ∙ w .size;
-        below = λ u h. elim (cases-eq u n) [ inl same ↦ omega arith | inr other ↦ w .below u (sym (getD-set-other us n u true false other) ∙ h) ] })
+        below = λ u h. elim (cases-eq u n) [ inl same ↦ omega arith | inr other ↦ w .below u (sym (getD-set-other us n u true false other) ∙ h) ];
+      },
+    )
 
 -- the places of a set as a list
 rising-from : (j k : ℕ) (ns : List ℕ) → j ≤ k → Rising k ns → Rising j ns
@@ -187,11 +197,12 @@ places-all P k (false ∷ us) h = places-all P (suc k) us (λ u e. subst P (let 
 
 pub listed-places : (v : ℕ) (us : List Bool) → v < 24 → Lower v us → Listed (λ n. n < v) (listed (places us))
 listed-places v us l low = record {
-    numbers = places us;
-    rising = places-rising 0 us;
-    small = places-all Small 0 us (λ u e. omega (arith, low .below u e));
-    all = places-all (λ n. n < v) 0 us (λ u e. omega (arith, low .below u e));
-    written = refl }
+  numbers = places us;
+  rising = places-rising 0 us;
+  small = places-all Small 0 us (λ u e. omega (arith, low .below u e));
+  all = places-all (λ n. n < v) 0 us (λ u e. omega (arith, low .below u e));
+  written = refl;
+}
 
 pub lower-none : (v : ℕ) → Lower v (replicate 24 false)
 lower-none v = record { size = refl; below = λ u h. absurd (false≢true (sym (clear-none 24 u) ∙ h)) }

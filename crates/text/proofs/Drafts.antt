@@ -1,23 +1,23 @@
 -- From the parts of a job text to the whole.
-use mathlib.Core.Path.{_≡_, refl, sym, ap, subst, _∙_}
-use mathlib.Core.List.{List, [], _∷_, _++_}
+use mathlib.Core.Path.{_≡_, sym, ap, subst, _∙_}
+use mathlib.Core.List.{List, [], _++_}
 use mathlib.Core.Bool.{true, false}
-use mathlib.Core.Logic.{_⊎_, inl, inr}
-use Prim.Native.Nat.{ℕ, _+_, _<_, _≤_}
+use mathlib.Core.Logic.{inl, inr}
+use Prim.Native.Nat.{ℕ, _+_, _<_}
 use native.Mathlib.Omega.{arith}
 use lib.ListN.{length, getD, replicate}
 use Rattle.std.proofs.shelf.Lists.{append-nil, getD-past, length-replicate}
 use Rattle.std.proofs.shelf.Tests.{cases-lt, false≢true}
 use Rattle.task.specs.declared.job.Job.{Job}
 use Rattle.task.specs.declared.node.Node.{Node}
-use Rattle.task.specs.Flaws.{Header-fits, In-range, Made-of, graph}
-use Rattle.task.specs.Graph.{at, edge, Upward}
+use Rattle.task.specs.Flaws.{Header-fits, In-range, Made-of}
+use Rattle.task.specs.Graph.{Upward}
 use Rattle.task.specs.Node.{after, blank, missing}
 use Rattle.text.specs.declared.fault.Fault.{Fault}
 use Rattle.text.specs.declared.fault.Fault.the-variants.{Size, Line, Form, Range, Fork, Forks}
 use Rattle.text.specs.declared.job_text.Header.{Header}
 use Rattle.text.specs.JobText.{Written, Forked, Nodes-fit, Reads, Refused, header, header-slots, nodes-slots, slots, written}
-use Rattle.text.specs.Slots.{Slot, Halts, Overruns, Sized, Stops, Took, Whole, text-of}
+use Rattle.text.specs.Slots.{Halts, Sized, Stops, Took, Whole, text-of}
 use Rattle.text.proofs.Following.{took-append, stops-after, stops-more}
 
 -- a header and nodes
@@ -67,14 +67,16 @@ forks-refused bs Forks w s whole x = record { sized = s; says = w; whole = whole
 -- what was read lies in its ranges
 upward : (ns : List Node) → Nodes-fit ns → Upward ns
 upward ns fit u v e = elim (cases-lt v (length ns)) [
-    inl l ↦ fit v l .below u e
-  | inr l ↦ absurd (false≢true (sym (ap (λ n. getD (after n) u false) (getD-past ns v missing l)) ∙ e)) ]
+  | inl l ↦ fit v l .below u e
+  | inr l ↦ absurd (false≢true (sym (ap (λ n. getD (after n) u false) (getD-past ns v missing l)) ∙ e))
+]
 
 pub in-range : (h : Header) (ns : List Node) → length ns ≡ h .count → Header-fits (h .number) (h .period) (h .deadline) (h .count) → Nodes-fit ns → In-range (h .number) (h .period) (h .deadline) ns
 in-range h ns e fit nodes = record {
-    header = subst (Header-fits (h .number) (h .period) (h .deadline)) (sym e) fit;
-    ranged = λ v l. nodes v l .numbers;
-    upward = upward ns nodes }
+  header = subst (Header-fits (h .number) (h .period) (h .deadline)) (sym e) fit;
+  ranged = λ v l. nodes v l .numbers;
+  upward = upward ns nodes;
+}
 
 -- the job that was made says what was read
 same-slots : (v w : Written) → v .number ≡ w .number → v .period ≡ w .period → v .deadline ≡ w .deadline → v .nodes ≡ w .nodes → slots v ≡ slots w
@@ -86,5 +88,6 @@ same-slots v w a b c d =
 
 pub made-reads : (bs : List ℕ) (h : Header) (ns : List Node) (j : Job) → Sized bs → Whole (slots (draft h ns)) bs → Made-of (h .number) (h .period) (h .deadline) ns j → Reads bs j
 made-reads bs h ns j s whole made = record {
-    sized = s;
-    whole = subst (λ ss. Whole ss bs) (sym (same-slots (written j) (draft h ns) (made .its-number) (made .its-period) (made .its-deadline) (made .its-nodes))) whole }
+  sized = s;
+  whole = subst (λ ss. Whole ss bs) (sym (same-slots (written j) (draft h ns) (made .its-number) (made .its-period) (made .its-deadline) (made .its-nodes))) whole;
+}

@@ -14,9 +14,8 @@ use Rattle.text.specs.declared.fault.Fault.{Fault}
 use Rattle.text.specs.declared.fault.Fault.the-variants.{Size, Line, Form, Range, Fork, Forks}
 use Rattle.text.specs.declared.key.Key as keys
 use Rattle.text.specs.declared.platform_text.Engine.{Engine}
-use Rattle.text.specs.declared.platform_text.Platform.{Platform}
-use Rattle.text.specs.PlatformText.{Described, Plain, Reads, Refused, Said, all-said, at, blank, engine-slots, engines-slots, said, slots}
-use Rattle.text.specs.Slots.{Slot, slot, Fails, Halts, Overruns, Sized, Stops, Took, Whole, number-fits, text-of}
+use Rattle.text.specs.PlatformText.{Plain, Refused, Said, at, blank, engine-slots, engines-slots, said, slots}
+use Rattle.text.specs.Slots.{slot, Fails, Halts, Sized, Stops, Took, Whole, number-fits, text-of}
 use Rattle.text.proofs.Following.{took-append, took-next, stops-after, stops-here, stops-more, stops-next}
 use Rattle.text.proofs.Marking.{ones}
 
@@ -37,23 +36,25 @@ front i es = map said (take i es)
 pub engines-more : (i : ℕ) (es : List Engine) (e : Engine) (bs : List ℕ) (b : ℕ) (cs : List ℕ) (c : ℕ) (ds : List ℕ) (d : ℕ) → i < length es → Took (engines-slots (map said (take i es))) bs b cs c → Took (engine-slots (said e)) cs c ds d → Took (engines-slots (map said (take (i + 1) (set es i e)))) bs b ds d
 engines-more i es e bs b cs c ds d l was more =
     let same : engines-slots (map said (take (i + 1) (set es i e))) ≡ engines-slots (front i es) ++ engine-slots (said e) =
-      ap (λ xs. engines-slots (map said xs)) (take-more-set es i e l)
-      ∙ (ap engines-slots (map-append said (take i es) (e ∷ [])) ∙ engines-append (front i es) (said e ∷ [])) in
+    ap (λ xs. engines-slots (map said xs)) (take-more-set es i e l)
+    ∙ (ap engines-slots (map-append said (take i es) (e ∷ [])) ∙ engines-append (front i es) (said e ∷ [])) in
     subst (λ ss. Took ss bs b ds d) (sym same) (took-append (engines-slots (front i es)) (engine-slots (said e)) bs b cs c ds d was more)
 
 pub engines-stop : (i count : ℕ) (es : List Engine) (s : Said) (bs : List ℕ) (b : ℕ) (cs : List ℕ) (c : ℕ) (f : Fault) → i < count → i ≤ length es → Took (engines-slots (map said (take i es))) bs b cs c → Stops (engine-slots s) cs c f → (ss : List Said) × (length ss ≡ count) × Stops (engines-slots ss) bs b f
 engines-stop i count es s bs b cs c f l in′ was stop =
     let none : Said = record { tag = 0; marks = [] } in
-    let later = replicate (count - suc i) none in
-    (front i es ++ s ∷ later,
+    let later = replicate (count - suc i) none in (
+      front i es ++ s ∷ later,
       omega (arith, length-append (front i es) (s ∷ later), length-map (take i es) said, length-take-le i es in′, length-replicate (count - suc i) none),
       subst (λ ss. Stops ss bs b f) (sym (engines-append (front i es) (s ∷ later)))
-        (stops-after (engines-slots (front i es)) (engine-slots s ++ engines-slots later) bs b cs c f was (stops-more (engine-slots s) (engines-slots later) cs c f stop)))
+          (stops-after (engines-slots (front i es)) (engine-slots s ++ engines-slots later) bs b cs c f was (stops-more (engine-slots s) (engines-slots later) cs c f stop)),
+    )
 
 pub plain-more : (i : ℕ) (es : List Engine) (e : Engine) → i < length es → ((k : ℕ) → k < i → Plain (at es k)) → Plain e → (k : ℕ) → k < i + 1 → Plain (at (set es i e) k)
 plain-more i es e l was here k h = elim (cases-eq k i) [
-    inl same ↦ subst (λ x. Plain (at (set es i e) x)) (sym same) (subst Plain (sym (getD-set-same es i e blank l)) here)
-  | inr other ↦ subst Plain (sym (getD-set-other es i k e blank other)) (was k (omega arith)) ]
+  | inl same ↦ subst (λ x. Plain (at (set es i e) x)) (sym same) (subst Plain (sym (getD-set-same es i e blank l)) here)
+  | inr other ↦ subst Plain (sym (getD-set-other es i k e blank other)) (was k (omega arith))
+]
 
 pub blank-more : (i : ℕ) (es : List Engine) (e : Engine) → ((k : ℕ) → i ≤ k → at es k ≡ blank) → (k : ℕ) → i + 1 ≤ k → at (set es i e) k ≡ blank
 blank-more i es e was k h = let other : k ≢ i = omega arith in getD-set-other es i k e blank other ∙ was k (omega arith)

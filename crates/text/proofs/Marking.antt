@@ -1,12 +1,12 @@
 -- Zeros and ones.
 use mathlib.Core.Path.{_≡_, refl, sym, ap, subst, _∙_}
-use mathlib.Core.List.{List, [], _∷_, _++_, map}
+use mathlib.Core.List.{List, [], _∷_, map}
 use mathlib.Core.Bool.{Bool, true, false, cond}
 use mathlib.Core.Logic.{_⊎_, inl, inr}
-use Prim.Native.Nat.{ℕ, zero, suc, _+_, _%_, _<_, _≤_}
+use Prim.Native.Nat.{ℕ, zero, suc, _%_, _<_, _≤_}
 use native.Mathlib.Omega.{arith}
 use lib.Dec.{eqb}
-use lib.ListN.{length, getD, take}
+use lib.ListN.{length, getD}
 use Rattle.std.specs.shelf.Lists.{All}
 use Rattle.std.proofs.shelf.Lists.{length-map}
 use Rattle.std.proofs.shelf.Tests.{eq-eqb, ne-eqb, false≢true}
@@ -70,12 +70,16 @@ marks-fit bs m short divides k e =
       all = record {
         short = omega arith;
         divides = subst (λ n. 14400 % n ≡ 0) long divides;
-        serves = (k, mark-one (m .marks) k (ap (λ xs. getD xs k 0) (sym (m .written)) ∙ e)) } }
+        serves = (k, mark-one (m .marks) k (ap (λ xs. getD xs k 0) (sym (m .written)) ∙ e));
+      };
+    }
 
 pub fit-marks : (bs : List ℕ) → Marked Marks-fit bs → (length bs ≤ 240) × (14400 % length bs ≡ 0) × ((k : ℕ) × (k < length bs) × (getD bs k 0 ≡ 49))
 fit-marks bs m =
     let long = marked-long _ bs m in
     let fit = m .all in
-    let one = one-mark (m .marks) (fit .serves .0) (fit .serves .1) in
-    (omega (arith, fit .short), subst (λ n. 14400 % n ≡ 0) (sym long) (fit .divides),
-      (fit .serves .0, subst (λ xs. fit .serves .0 < length xs) (sym (m .written)) (one .1), ap (λ xs. getD xs (fit .serves .0) 0) (m .written) ∙ one .0))
+    let one = one-mark (m .marks) (fit .serves .0) (fit .serves .1) in (
+      omega (arith, fit .short),
+      subst (λ n. 14400 % n ≡ 0) (sym long) (fit .divides),
+      (fit .serves .0, subst (λ xs. fit .serves .0 < length xs) (sym (m .written)) (one .1), ap (λ xs. getD xs (fit .serves .0) 0) (m .written) ∙ one .0),
+    )

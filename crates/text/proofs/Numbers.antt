@@ -1,8 +1,8 @@
 -- Numbers in decimal, of at most nine digits.
-use mathlib.Core.Path.{_≡_, refl, sym, ap, subst, _∙_}
+use mathlib.Core.Path.{_≡_, sym, ap, subst, _∙_}
 use mathlib.Core.List.{List, [], _∷_}
 use mathlib.Core.Logic.{inl, inr}
-use Prim.Native.Nat.{ℕ, zero, suc, _+_, _*_, _^_, _<_, _≤_}
+use Prim.Native.Nat.{ℕ, zero, suc, _^_, _<_, _≤_}
 use native.Mathlib.Omega.{arith}
 use lib.ListN.{length, getD, take}
 use Rattle.std.specs.Reads.{value, Digits}
@@ -10,7 +10,6 @@ use Rattle.std.specs.Text.{digitValue}
 use Rattle.std.specs.Written.{decimal}
 use Rattle.std.proofs.shelf.Tests.{cases-eq}
 use Rattle.std.proofs.shelf.Numerals.{Numerals, numerals-by-value, tells-digits, value-short}
-use Rattle.std.proofs.shelf.Digits.{value-more, digits-more}
 use Rattle.std.proofs.shelf.Decimals.{decimal-reads, decimal-digit, decimal-value, length-decimal-le, first-decimal, same-from-decimal}
 use Rattle.text.specs.Value.{Numeral}
 
@@ -22,12 +21,14 @@ own = numerals-by-value (Digits 10) tells-digits
 
 short-decimal : (n : ℕ) → n < 1000000000 → Short (decimal n)
 short-decimal n l =
-    let big : n < 2 ^ 64 = omega arith in
-    ((decimal-reads n big) .0 .0,
+    let big : n < 2 ^ 64 = omega arith in (
+      (decimal-reads n big) .0 .0,
       length-decimal-le 9 n (omega arith) (omega arith) big,
       λ e. elim (cases-eq n 0) [
-        inl z ↦ subst (λ m. length (decimal m) ≡ 1) (sym z) (ap length (decimal-digit 0 (omega arith)))
-      | inr p ↦ omega (arith, first-decimal n (omega arith) big) ])
+        | inl z ↦ subst (λ m. length (decimal m) ≡ 1) (sym z) (ap length (decimal-digit 0 (omega arith)))
+        | inr p ↦ omega (arith, first-decimal n (omega arith) big)
+      ],
+    )
 
 pub numeral-short : (n : ℕ) (bs : List ℕ) → Numeral n bs → Short bs
 numeral-short n bs w = subst Short (sym (w .written)) (short-decimal n (w .small))

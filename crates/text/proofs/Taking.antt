@@ -1,17 +1,15 @@
 -- Lines taken from the front of a text.
 use mathlib.Core.Path.{_≡_, refl, sym, ap, subst, _∙_}
-use mathlib.Core.List.{List, [], _∷_, _++_}
-use Prim.Native.Nat.{ℕ, _+_, _<_, _≤_}
+use mathlib.Core.List.{List, _∷_, _++_}
+use Prim.Native.Nat.{ℕ, _+_, _≤_}
 use native.Mathlib.Omega.{arith}
 use lib.ListN.{length}
-use Rattle.std.specs.shelf.Lists.{All}
 use Rattle.std.proofs.shelf.Elements.{all-append, all-drop}
 use Rattle.std.proofs.shelf.Lists.{append-assoc, drop-at, length-append}
-use Rattle.text.specs.declared.fault.Fault.{Fault}
 use Rattle.text.specs.declared.key.Key.{Key}
 use Rattle.text.specs.declared.key.Key.the-variants.{Job, Period, Deadline, Nodes, Kind, Tag, Ticks, After, Engines, Marks}
-use Rattle.text.specs.Key.{key-bytes, sort-of}
-use Rattle.text.specs.Slots.{Slot, slot, text-of, In-range, Ranged, Taken, Took, Fails, Stops}
+use Rattle.text.specs.Key.{key-bytes}
+use Rattle.text.specs.Slots.{Taken}
 use Rattle.text.specs.Split.{Lacks, Cut}
 use Rattle.text.proofs.Cuts.{lacks-none, cut-front}
 
@@ -39,8 +37,9 @@ no-key k bs front rest cut none value more t =
 
 pub taken-from : (k : Key) (bs front rest value : List ℕ) → Cut 10 bs front rest → front ≡ key-bytes k ++ value → Taken k bs value rest
 taken-from k bs front rest value cut e = record {
-    ended = subst (Lacks 10) (drop-at (key-bytes k) value (length (key-bytes k)) refl) (all-drop _ (length (key-bytes k)) (key-bytes k ++ value) (subst (Lacks 10) e (cut .first)));
-    written = cut .parts ∙ (ap (λ xs. xs ++ 10 ∷ rest) e ∙ append-assoc (key-bytes k) value (10 ∷ rest)) }
+  ended = subst (Lacks 10) (drop-at (key-bytes k) value (length (key-bytes k)) refl) (all-drop _ (length (key-bytes k)) (key-bytes k ++ value) (subst (Lacks 10) e (cut .first)));
+  written = cut .parts ∙ (ap (λ xs. xs ++ 10 ∷ rest) e ∙ append-assoc (key-bytes k) value (10 ∷ rest));
+}
 
 -- a line takes a byte at least
 pub cut-room : (n : ℕ) (bs front rest : List ℕ) → Cut 10 bs front rest → n + length bs ≤ 4096 → (n + 1) + length rest ≤ 4096

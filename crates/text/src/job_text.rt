@@ -2,7 +2,7 @@
 ghost use lib.ListN.{length, take};
 ghost use mathlib.Core.List.{List};
 ghost use mathlib.Core.Path.{_≡_};
-ghost use Prim.Native.Nat.{_+_, _<_, _≤_};
+ghost use Prim.Native.Nat.{_<_, _≤_};
 ghost use Rattle.std.specs.Results.{Cases};
 ghost use Rattle.task.specs.declared.node.Node.{Node};
 ghost use Rattle.task.specs.Flaws.{Header-fits, In-range, Made-of};
@@ -43,7 +43,12 @@ impl Lines<'_> {
         let period = self.number(Key::Period, 0)?;
         let deadline = self.number(Key::Deadline, period)?;
         let count = self.number(Key::Nodes, 0)?;
-        Ok(Header { number, period, deadline, count })
+        Ok(Header {
+            number,
+            period,
+            deadline,
+            count,
+        })
     }
 
     /// Takes the lines of the node `v`.
@@ -104,7 +109,10 @@ pub fn read_job(text: &[u8]) -> Result<Job, Fault>
     if text.len() == 0 || text.len() > 4096 {
         return Err(Fault::Size);
     }
-    let mut lines = Lines { rest: text, number: 0 };
+    let mut lines = Lines {
+        rest: text,
+        number: 0,
+    };
     let header = lines.header()?;
     let count = header.count as usize;
     let table = lines.nodes(count)?;

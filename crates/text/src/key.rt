@@ -53,13 +53,29 @@ impl Key {
         match (self, line) {
             (Key::Job, [b'j', b'o', b'b', b'=', value @ ..]) => Some(value),
             (Key::Period, [b'p', b'e', b'r', b'i', b'o', b'd', b'=', value @ ..]) => Some(value),
-            (Key::Deadline, [b'd', b'e', b'a', b'd', b'l', b'i', b'n', b'e', b'=', value @ ..]) => Some(value),
+            (
+                Key::Deadline,
+                [
+                    b'd',
+                    b'e',
+                    b'a',
+                    b'd',
+                    b'l',
+                    b'i',
+                    b'n',
+                    b'e',
+                    b'=',
+                    value @ ..,
+                ],
+            ) => Some(value),
             (Key::Nodes, [b'n', b'o', b'd', b'e', b's', b'=', value @ ..]) => Some(value),
             (Key::Kind, [b'k', b'i', b'n', b'd', b'=', value @ ..]) => Some(value),
             (Key::Tag, [b't', b'a', b'g', b'=', value @ ..]) => Some(value),
             (Key::Ticks, [b't', b'i', b'c', b'k', b's', b'=', value @ ..]) => Some(value),
             (Key::After, [b'a', b'f', b't', b'e', b'r', b'=', value @ ..]) => Some(value),
-            (Key::Engines, [b'e', b'n', b'g', b'i', b'n', b'e', b's', b'=', value @ ..]) => Some(value),
+            (Key::Engines, [b'e', b'n', b'g', b'i', b'n', b'e', b's', b'=', value @ ..]) => Some(
+                value,
+            ),
             (Key::Marks, [b'm', b'a', b'r', b'k', b's', b'=', value @ ..]) => Some(value),
             _ => None,
         }

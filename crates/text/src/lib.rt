@@ -4,7 +4,7 @@ pub mod job_text;
 pub mod key;
 mod lines;
 pub mod platform_text;
-pub mod split;
+mod split;
 mod take;
 pub mod texts;
 pub mod value;

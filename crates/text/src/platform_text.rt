@@ -60,7 +60,11 @@ impl Lines<'_> {
     {
         let tag = self.number(Key::Tag, 0)?;
         let marks = self.marks()?;
-        Ok(Engine { tag, length: marks.len(), marks: ones(marks) })
+        Ok(Engine {
+            tag,
+            length: marks.len(),
+            marks: ones(marks),
+        })
     }
 
     /// Takes the lines of so many engines.
@@ -83,7 +87,10 @@ pub fn read_platform(text: &[u8]) -> Result<Platform, Fault>
     if text.len() == 0 || text.len() > 4096 {
         return Err(Fault::Size);
     }
-    let mut lines = Lines { rest: text, number: 0 };
+    let mut lines = Lines {
+        rest: text,
+        number: 0,
+    };
     let count = lines.number(Key::Engines, 0)? as usize;
     let engines = lines.engines(count)?;
     lines.end()?;

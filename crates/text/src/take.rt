@@ -35,7 +35,10 @@ impl Key {
         match self {
             Key::Job => Field::Number(number).is_fit(),
             Key::Period => Field::Period(number).is_fit(),
-            Key::Deadline => (Field::Deadline { period: limit, deadline: number }).is_fit(),
+            Key::Deadline => (Field::Deadline {
+                period: limit,
+                deadline: number,
+            }).is_fit(),
             Key::Nodes => Field::Count(number).is_fit(),
             Key::Tag => Field::Tag(number).is_fit(),
             Key::Ticks => Field::Work(number).is_fit(),
@@ -78,7 +81,10 @@ impl<'a> Lines<'a> {
         };
         self.rest = rest;
         self.number = line;
-        Ok(Line { number: line, value })
+        Ok(Line {
+            number: line,
+            value,
+        })
     }
 
     /// Takes the next line, which is to hold a number in the range of this key.
@@ -137,7 +143,9 @@ impl<'a> Lines<'a> {
         ensures { λ r. ⌜ Cases r (λ _. now (now (self .entry) .rest) ≡ []) (λ f. (0 < length (now (now (self .entry) .rest))) × (f ≡ Fault.Line (now (self .entry) .number + 1))) ⌝ }
     {
         if self.rest.len() > 0 {
-            return Err(Fault::Line { line: self.number + 1 });
+            return Err(Fault::Line {
+                line: self.number + 1,
+            });
         }
         Ok(())
     }

@@ -1,4 +1,4 @@
-use mathlib.Core.Path.{_≡_, ap, sym, subst}
+use mathlib.Core.Path.{ap, sym, subst}
 use native.Mathlib.Nat.{sub-zero}
 use native.Mathlib.Omega.{arith}
 use lib.ListN.{take}
@@ -27,7 +27,7 @@ returns-in-Break-end c =
     let over = c .in-Break-end .ensures tt in
     let nodes = c .in-Continue-table .ensures tt in
     rw (p .1, p .2) (halts-refused _ _ (omega arith, c .if-text-gt4096 .left)
-      (rest-halts (c .in-Continue-header .header) _ _ _ _ _ _ _ (nodes .0) (c .in-Continue-header .ensures tt .0) (nodes .1) (over .0) (over .1)))
+    (rest-halts (c .in-Continue-header .header) _ _ _ _ _ _ _ (nodes .0) (c .in-Continue-header .ensures tt .0) (nodes .1) (over .0) (over .1)))
 
 pub make-job-requires : need.make-job-requires
 make-job-requires c κs =
@@ -44,5 +44,5 @@ returns c =
     let same = ap (λ n. take n (c .in-Continue-table .table)) (sub-zero (h .count)) in
     let whole = all-whole h ns _ _ _ _ _ (nodes .0) (c .in-Continue-header .ensures tt .0) (nodes .1) (c .in-Continue-end .ensures tt) in
     cases-weaker (c .make-job .result) (subst (λ ms. Cases (c .make-job .result) (Made-of (h .number) (h .period) (h .deadline) ms) (Forked ms)) same (c .make-job .ensures))
-      (λ j made. made-reads _ h ns j (omega arith, c .if-text-gt4096 .left) whole made)
-      (λ f forked. forks-refused _ f (draft h ns) (omega arith, c .if-text-gt4096 .left) whole forked)
+    (λ j made. made-reads _ h ns j (omega arith, c .if-text-gt4096 .left) whole made)
+    (λ f forked. forks-refused _ f (draft h ns) (omega arith, c .if-text-gt4096 .left) whole forked)

@@ -25,4 +25,5 @@ returns c =
     record {
       size = inv .0;
       marks = subst (λ n. take n (c .loop-i .ones) ≡ ones (take n marks)) done (inv .1) ∙ ap ones (take-all (length marks) marks (omega arith));
-      rest = λ i l. inv .2 i (omega arith) }
+      rest = λ i l. inv .2 i (omega arith);
+    }

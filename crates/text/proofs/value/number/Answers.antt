@@ -1,9 +1,7 @@
 use mathlib.Core.Path.{_≡_, sym, ap, subst, _∙_}
-use Prim.Native.Nat.{_+_, _*_, _<_, _≤_}
+use Prim.Native.Nat.{_<_}
 use native.Mathlib.Omega.{arith}
-use lib.ListN.{length, take, getD}
 use Rattle.std.specs.Reads.{value, Digits}
-use Rattle.std.specs.Text.{digitValue}
 use Rattle.std.proofs.shelf.Digits.{value-more, digits-more}
 use Rattle.std.proofs.shelf.Lists.{take-all, length-take}
 use Rattle.std.proofs.shelf.Tests.{both-ways}
@@ -34,9 +32,10 @@ pub loop-byte-again : need.loop-byte-again
 loop-byte-again c =
     let bs = c .args .bytes .now in
     let i = c .loop-byte .byte-index in
-    let is = c .in-Continue-digit .ensures tt in
-    (cc (value-more 10 bs i (c .loop-byte-test .taken), c .loop-byte .inv .0, is .0),
-      digits-more 10 bs i (c .loop-byte-test .taken) (c .loop-byte .inv .1) (subst (λ d. d < 10) (is .0) (is .1)))
+    let is = c .in-Continue-digit .ensures tt in (
+      cc (value-more 10 bs i (c .loop-byte-test .taken), c .loop-byte .inv .0, is .0),
+      digits-more 10 bs i (c .loop-byte-test .taken) (c .loop-byte .inv .1) (subst (λ d. d < 10) (is .0) (is .1)),
+    )
 
 pub returns : need.returns
 returns c =

@@ -24,7 +24,7 @@ returns-in-None c =
     let due = c .in-Continue-line .ensures tt in
     let is = list-there _ _ _ _ due (c .in-List .is) in
     due-missed After (c .args .node) _ _ _ due (rises-listed _ (due .bytes) (is .1))
-      (λ r. c .in-None .ensures tt (subst (Rises (λ n. n < c .args .node) 0) (sym (is .0)) (listed-rises _ (due .bytes) (is .1) r)))
+    (λ r. c .in-None .ensures tt (subst (Rises (λ n. n < c .args .node) 0) (sym (is .0)) (listed-rises _ (due .bytes) (is .1) r)))
 
 pub returns-in-rest : need.returns-in-rest
 returns-in-rest c =

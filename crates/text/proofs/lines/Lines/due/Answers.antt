@@ -11,9 +11,15 @@ returns-in-rest-value-of c = λ limit. (refl, no-key (c .args .key) _ _ _ (c .in
 
 pub returns-in-rest-read : need.returns-in-rest-read
 returns-in-rest-read c = λ limit.
-    let bytes = c .in-Some-value-of .bytes .now in
-    (refl, (bytes, c .in-Some .rest .now, taken-from (c .args .key) _ _ _ bytes (c .in-Some .ensures tt) (c .in-Some-value-of .ensures tt),
-      λ form. c .in-rest-read .ensures tt (subst (λ s. Form s bytes) (sym (c .sort .ensures)) form)))
+    let bytes = c .in-Some-value-of .bytes .now in (
+      refl,
+      (
+        bytes,
+        c .in-Some .rest .now,
+        taken-from (c .args .key) _ _ _ bytes (c .in-Some .ensures tt) (c .in-Some-value-of .ensures tt),
+        λ form. c .in-rest-read .ensures tt (subst (λ s. Form s bytes) (sym (c .sort .ensures)) form),
+      ),
+    )
 
 pub ghost-self : need.ghost-self
 ghost-self c = (cut-room _ _ _ _ (c .in-Some .ensures tt) (c .args .self .now .room), tt)

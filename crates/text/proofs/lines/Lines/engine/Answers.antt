@@ -26,6 +26,7 @@ pub returns : need.returns
 returns c =
     let is = c .in-Continue-marks .ensures tt in
     let bs = c .in-Continue-marks .marks .now in
-    let same = bits-written bs (marked-bits _ bs (is .1)) ∙ ap mark-bytes (sym (c .ones .ensures .marks)) in
-    (took-next (c .in-Continue-tag .ensures tt .0) (took-value same (is .0)),
-      record { size = c .ones .ensures .size; short = fit-marks bs (is .1) .0; rest = c .ones .ensures .rest })
+    let same = bits-written bs (marked-bits _ bs (is .1)) ∙ ap mark-bytes (sym (c .ones .ensures .marks)) in (
+      took-next (c .in-Continue-tag .ensures tt .0) (took-value same (is .0)),
+      record { size = c .ones .ensures .size; short = fit-marks bs (is .1) .0; rest = c .ones .ensures .rest },
+    )

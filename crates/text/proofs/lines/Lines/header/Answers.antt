@@ -1,4 +1,3 @@
-use mathlib.Core.List.{[], _∷_}
 use Prim.Native.Nat.{ℕ}
 use Rattle.std.proofs.shelf.Results.{err-from-errBy}
 use Rattle.text.specs.declared.job_text.Header.{Header}
@@ -30,6 +29,7 @@ returns-in-Break-count c =
     rw (p .1, p .2) ((draft (c .in-Continue-number .number) (c .in-Continue-period .period) (c .in-Continue-deadline .deadline), stops-next (c .in-Continue-number .ensures tt .0) (stops-next (c .in-Continue-period .ensures tt .0) (stops-next (c .in-Continue-deadline .ensures tt .0) (stops-here (c .in-Break-count .ensures tt))))))
 
 pub returns : need.returns
-returns c =
-    (took-next (c .in-Continue-number .ensures tt .0) (took-next (c .in-Continue-period .ensures tt .0) (took-next (c .in-Continue-deadline .ensures tt .0) (c .in-Continue-count .ensures tt .0))),
-      (c .in-Continue-number .ensures tt .1, c .in-Continue-period .ensures tt .1, c .in-Continue-deadline .ensures tt .1, c .in-Continue-count .ensures tt .1))
+returns c = (
+  took-next (c .in-Continue-number .ensures tt .0) (took-next (c .in-Continue-period .ensures tt .0) (took-next (c .in-Continue-deadline .ensures tt .0) (c .in-Continue-count .ensures tt .0))),
+  (c .in-Continue-number .ensures tt .1, c .in-Continue-period .ensures tt .1, c .in-Continue-deadline .ensures tt .1, c .in-Continue-count .ensures tt .1),
+)

@@ -1,4 +1,4 @@
-use mathlib.Core.List.{[], _∷_}
+use mathlib.Core.List.{[]}
 use mathlib.Core.Path.{ap}
 use Rattle.text.specs.Value.{word}
 use Rattle.std.proofs.shelf.Results.{err-from-errBy}
@@ -38,6 +38,7 @@ returns-in-Break-after-3 c =
     rw (p .1, p .2) ((Conditional [], stops-next (took-value (ap word (c .in-Conditional .is)) (c .in-Continue-kind .ensures tt)) (stops-here (c .in-Break-after-3 .ensures tt))))
 
 pub returns-in-Continue-after : need.returns-in-Continue-after
-returns-in-Continue-after c =
-    (took-next (took-value (ap word (c .in-SubTask .is)) (c .in-Continue-kind .ensures tt)) (took-next (c .in-Continue-tag .ensures tt .0) (took-next (c .in-Continue-ticks .ensures tt .0) (c .in-Continue-after .ensures tt .0))),
-      record { numbers = and-from _ _ (c .in-Continue-tag .ensures tt .1) (c .in-Continue-ticks .ensures tt .1); below = c .in-Continue-after .ensures tt .1 .below })
+returns-in-Continue-after c = (
+  took-next (took-value (ap word (c .in-SubTask .is)) (c .in-Continue-kind .ensures tt)) (took-next (c .in-Continue-tag .ensures tt .0) (took-next (c .in-Continue-ticks .ensures tt .0) (c .in-Continue-after .ensures tt .0))),
+  record { numbers = and-from _ _ (c .in-Continue-tag .ensures tt .1) (c .in-Continue-ticks .ensures tt .1); below = c .in-Continue-after .ensures tt .1 .below },
+)

@@ -1,4 +1,4 @@
-use mathlib.Core.Path.{_≡_, sym, subst, _∙_}
+use mathlib.Core.Path.{_≡_, subst, _∙_}
 use native.Mathlib.Omega.{arith}
 use Prim.Native.Nat.{_<_, _≤_}
 use lib.ListN.{length, take}
@@ -29,7 +29,8 @@ returns c =
     let inv = c .loop-v .inv in
     let table = c .loop-v .table in
     let done : c .loop-v .v ≡ c .args .count = omega (arith, c .loop-v-test .left, c .loop-v .kept .v-end) in
-    let in′ : c .args .count ≤ length table = omega (arith, inv .0, c .pre) in
-    (length-take-le (c .args .count) table in′,
+    let in′ : c .args .count ≤ length table = omega (arith, inv .0, c .pre) in (
+      length-take-le (c .args .count) table in′,
       subst (λ n. Takes (nodes-slots 0 (take n table)) (c .args .self .now) (c .loop-v .self)) done (inv .1),
-      fits-take (c .args .count) table in′ (λ u l. inv .2 u (omega arith)))
+      fits-take (c .args .count) table in′ (λ u l. inv .2 u (omega arith)),
+    )

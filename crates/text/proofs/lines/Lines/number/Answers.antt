@@ -1,5 +1,5 @@
 use mathlib.Core.Path.{sym}
-use Rattle.text.proofs.Dues.{number-took, number-missed, number-there}
+use Rattle.text.proofs.Dues.{number-took, number-missed}
 use Rattle.std.proofs.shelf.Results.{err-from-errBy}
 use Rattle.text.proofs.lines.Lines.number.Needs as need
 
@@ -13,4 +13,3 @@ returns-in-Number c =
 
 pub returns-in-rest : need.returns-in-rest
 returns-in-rest c = number-missed _ _ _ _ _ _ (c .pre) (c .in-Continue-line .ensures tt) (c .in-Number .is) (sym (c .if-fits .ensures tt))
-
