@@ -1,3 +1,4 @@
 //! What the seating program prints of a job text.
 pub mod answer;
 pub mod lines;
+pub mod listing;

@@ -15,7 +15,6 @@ use Rattle.std.proofs.shelf.Tests.{true≢false, false≢true, cases-eq}
 use Rattle.std.specs.Options.{mapped}
 use Rattle.std.specs.Reads.{Digits}
 use Rattle.std.specs.Written.{decimal}
-use Rattle.std.specs.Text.{digitValue}
 use Rattle.std.specs.shelf.Lists.{All}
 use Rattle.std.proofs.shelf.Numerals.{digit-from-value}
 use Rattle.text.specs.Split.{Lacks, Cut}
@@ -134,7 +133,7 @@ pub listed-push : (ns : List ℕ) (n : ℕ) → listed (ns ++ n ∷ []) ≡ comm
 listed-push [] n = refl
 listed-push (m ∷ ns) n = refl
 
-clear-none : (n u : ℕ) → getD (replicate n false) u false ≡ false
+pub clear-none : (n u : ℕ) → getD (replicate n false) u false ≡ false
 clear-none zero u = refl
 clear-none (suc n) zero = refl
 clear-none (suc n) (suc u) = clear-none n u

@@ -1,10 +1,9 @@
 -- A list is cut at the first of a byte in one way.
-use mathlib.Core.Path.{_≡_, refl, sym, ap, _∙_}
+use mathlib.Core.Path.{_≡_, refl}
 use mathlib.Core.List.{List, [], _∷_, _++_}
 use Prim.Native.Nat.{ℕ}
 use native.Mathlib.Omega.{arith}
-use lib.ListN.{drop, getD}
-use Rattle.text.specs.Split.{Lacks, Cut}
+use Rattle.text.specs.Split.{Lacks}
 
 -- what lacks a byte does not hold it
 pub lacks-none : (b : ℕ) (bs xs ys : List ℕ) → Lacks b bs → bs ≡ xs ++ b ∷ ys → ⊥

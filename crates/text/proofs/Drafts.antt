@@ -1,23 +1,23 @@
 -- From the parts of a job text to the whole.
-use mathlib.Core.Path.{_≡_, refl, sym, ap, subst, _∙_}
-use mathlib.Core.List.{List, [], _∷_, _++_}
+use mathlib.Core.Path.{_≡_, sym, ap, subst, _∙_}
+use mathlib.Core.List.{List, [], _++_}
 use mathlib.Core.Bool.{true, false}
-use mathlib.Core.Logic.{_⊎_, inl, inr}
-use Prim.Native.Nat.{ℕ, _+_, _<_, _≤_}
+use mathlib.Core.Logic.{inl, inr}
+use Prim.Native.Nat.{ℕ, _+_, _<_}
 use native.Mathlib.Omega.{arith}
 use lib.ListN.{length, getD, replicate}
 use Rattle.std.proofs.shelf.Lists.{append-nil, getD-past, length-replicate}
 use Rattle.std.proofs.shelf.Tests.{cases-lt, false≢true}
 use Rattle.task.specs.declared.job.Job.{Job}
 use Rattle.task.specs.declared.node.Node.{Node}
-use Rattle.task.specs.Flaws.{Header-fits, In-range, Made-of, graph}
-use Rattle.task.specs.Graph.{at, edge, Upward}
+use Rattle.task.specs.Flaws.{Header-fits, In-range, Made-of}
+use Rattle.task.specs.Graph.{Upward}
 use Rattle.task.specs.Node.{after, blank, missing}
 use Rattle.text.specs.declared.fault.Fault.{Fault}
 use Rattle.text.specs.declared.fault.Fault.the-variants.{Size, Line, Form, Range, Fork, Forks}
 use Rattle.text.specs.declared.job_text.Header.{Header}
 use Rattle.text.specs.JobText.{Written, Forked, Nodes-fit, Reads, Refused, header, header-slots, nodes-slots, slots, written}
-use Rattle.text.specs.Slots.{Slot, Halts, Overruns, Sized, Stops, Took, Whole, text-of}
+use Rattle.text.specs.Slots.{Halts, Sized, Stops, Took, Whole, text-of}
 use Rattle.text.proofs.Following.{took-append, stops-after, stops-more}
 
 -- a header and nodes

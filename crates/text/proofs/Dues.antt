@@ -2,7 +2,7 @@
 use mathlib.Core.Path.{_≡_, refl, sym, ap, subst, _∙_}
 use mathlib.Core.List.{List, [], _∷_, _++_}
 use mathlib.Core.Bool.{true, false}
-use Prim.Native.Nat.{ℕ, _+_, _<_}
+use Prim.Native.Nat.{ℕ}
 use native.Mathlib.Omega.{arith}
 use Rattle.std.specs.Written.{decimal}
 use Rattle.std.proofs.shelf.Lists.{append-assoc}
@@ -11,16 +11,15 @@ use Rattle.text.specs.declared.fault.Fault.the-variants.{Range}
 use Rattle.text.specs.declared.key.Key.{Key}
 use Rattle.text.specs.declared.key.Key.the-variants.{After}
 use Rattle.text.specs.declared.key.Sort as sorts
-use Rattle.text.specs.declared.key.Sort.{Sort}
 use Rattle.text.specs.declared.lines.Lines.{Lines}
 use Rattle.text.specs.declared.value.Line.{Line}
 use Rattle.text.specs.declared.value.Value as values
 use Rattle.text.specs.declared.value.Value.{Value}
 use Rattle.text.specs.Key.{key-bytes, sort-of}
-use Rattle.text.specs.Slots.{Slot, slot, text-of, Ranged, Ranged-as, Taken, Took, Fails, number-fits}
+use Rattle.text.specs.Slots.{slot, Ranged, Ranged-as, number-fits}
 use Rattle.text.specs.Take.{Due, Takes, Misses}
 use denote.Ref.{RefT}
-use Rattle.text.specs.Value.{Form, Word-form, Means, Numeral, Rises}
+use Rattle.text.specs.Value.{Form, Means, Numeral, Rises}
 use Rattle.text.proofs.Numbers.{numeral-same}
 
 pub due-took : (k : Key) (limit : ℕ) (l : Lines) (line : Line) (m : Lines) (bs : List ℕ) (d : Due k l line m) → d .bytes ≡ bs → Ranged k limit bs → Takes (slot k limit bs ∷ []) l m
@@ -48,13 +47,6 @@ number-missed k limit l line m n s d e fit =
     due-missed k limit l line m d (subst (λ x. Form x (d .bytes)) (sym s) (n, w))
     (λ r. let other = subst (λ x. Ranged-as x k limit (d .bytes)) s r in
     both-ways _ fit (ap (number-fits k limit) (numeral-same n (other .0) (d .bytes) w (other .1)) ∙ other .2))
-
--- a line whose sort is a number has one for its value
-pub number-there : (s : Sort) (bs : List ℕ) (v : Value) → s ≡ sorts.the-variants.Number → Means s bs v → ((n : ℕ) → v ≡ values.the-variants.Number n → ⊥) → ⊥
-number-there s bs (values.the-variants.Number n) e m none = none n refl
-number-there s bs (values.the-variants.Word p) e m none = subst (λ x. Word-form x bs) e (m .1)
-number-there s bs (values.the-variants.List p) e m none = let z : _≡_ {A = ℕ} 0 1 = cc (m .1, e) in omega arith
-number-there s bs values.the-variants.Dash e m none = let z : _≡_ {A = ℕ} 0 1 = cc (m .0, e) in omega arith
 
 -- a line of a list that is none has a dash
 pub dash-there : (bs : List ℕ) (v : Value) → Means sorts.the-variants.List bs v → ((p : RefT (List ℕ)) → v ≡ values.the-variants.List p → ⊥) → bs ≡ 45 ∷ []

@@ -1,18 +1,13 @@
 -- Lines taken one after the other.
 use mathlib.Core.Path.{_≡_, refl, sym, ap, subst, _∙_}
 use mathlib.Core.List.{List, [], _∷_, _++_}
-use Prim.Native.Nat.{ℕ, _+_, _<_, _≤_}
+use Prim.Native.Nat.{ℕ, _+_}
 use native.Mathlib.Nat.{add-zero}
 use native.Mathlib.Omega.{arith}
-use lib.ListN.{length}
-use Rattle.std.specs.shelf.Lists.{All}
 use Rattle.std.proofs.shelf.Elements.{all-append}
-use Rattle.std.proofs.shelf.Lists.{append-assoc, append-nil, length-append}
+use Rattle.std.proofs.shelf.Lists.{append-assoc, length-append}
 use Rattle.text.specs.declared.fault.Fault.{Fault}
 use Rattle.text.specs.declared.key.Key.{Key}
-use Rattle.text.specs.declared.key.Key as keys
-use Rattle.text.specs.declared.value.Kind as kinds
-use Rattle.text.specs.Value.{word}
 use Rattle.text.specs.Key.{key-bytes}
 use Rattle.text.specs.Slots.{Slot, slot, text-of, In-range, Took, Fails, Stops}
 
@@ -73,6 +68,6 @@ stops-here {k} {limit} {value} {later} {bs} {n} {f} x = stops-first k limit valu
 pub stops-next : {s : Slot} {ts : List Slot} {bs : List ℕ} {n : ℕ} {cs : List ℕ} {m : ℕ} {f : Fault} → Took (s ∷ []) bs n cs m → Stops ts cs m f → Stops (s ∷ ts) bs n f
 stops-next {s} {ts} {bs} {n} {cs} {m} {f} a x = stops-after (s ∷ []) ts bs n cs m f a x
 
--- the kind that a line named
-pub took-kind : {k kind : kinds.Kind} {bs : List ℕ} {n : ℕ} {cs : List ℕ} {m : ℕ} → k ≡ kind → Took (slot keys.the-variants.Kind 0 (word k) ∷ []) bs n cs m → Took (slot keys.the-variants.Kind 0 (word kind) ∷ []) bs n cs m
-took-kind {k} {kind} {bs} {n} {cs} {m} e t = subst (λ x. Took (slot keys.the-variants.Kind 0 (word x) ∷ []) bs n cs m) e t
+-- the same line, its value said in another way
+pub took-value : {k : Key} {limit : ℕ} {xs ys : List ℕ} {bs : List ℕ} {n : ℕ} {cs : List ℕ} {m : ℕ} → xs ≡ ys → Took (slot k limit xs ∷ []) bs n cs m → Took (slot k limit ys ∷ []) bs n cs m
+took-value {k} {limit} {xs} {ys} {bs} {n} {cs} {m} e t = subst (λ zs. Took (slot k limit zs ∷ []) bs n cs m) e t

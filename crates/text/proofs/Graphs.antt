@@ -1,24 +1,23 @@
 -- The lines of nodes.
-use mathlib.Core.Path.{_≡_, refl, sym, ap, subst, _∙_}
+use mathlib.Core.Path.{_≡_, sym, ap, subst, _∙_}
 use mathlib.Core.List.{List, [], _∷_, _++_}
 use mathlib.Core.Bool.{true, false, cond, _&&_}
-use mathlib.Core.Logic.{inl, inr, _≢_}
-use Prim.Native.Nat.{ℕ, zero, suc, _+_, _-_, _<_, _≤_}
+use mathlib.Core.Logic.{inl, inr}
+use Prim.Native.Nat.{ℕ, suc, _+_, _-_, _<_, _≤_}
 use native.Mathlib.Nat.{add-zero, zero-add}
-use native.Mathlib.Numerals.{add-one}
 use native.Mathlib.Omega.{arith}
 use lib.Dec.{leb}
-use lib.ListN.{length, getD, set, take, drop, replicate}
-use Rattle.std.proofs.shelf.Lists.{append-assoc, append-nil, length-append, length-replicate, length-take-le, length-set, take-more-set, getD-take, getD-past, getD-set-same, getD-set-other}
+use lib.ListN.{length, set, take, replicate}
+use Rattle.std.proofs.shelf.Lists.{append-assoc, append-nil, length-append, length-replicate, length-take-le, take-more-set, getD-take, getD-past, getD-set-same, getD-set-other}
 use Rattle.std.proofs.shelf.Tests.{cases-lt, cases-eq, true≢false, leb-true, and-parts}
 use Rattle.task.specs.declared.node.Node.{Node}
-use Rattle.task.specs.Flaws.{Header-fits, In-range}
+use Rattle.task.specs.Flaws.{In-range}
 use Rattle.task.specs.Graph.{at, ins, outs}
 use Rattle.task.specs.Node.{blank, fork?, missing}
 use Rattle.task.specs.Nodes.{fork-fits}
 use Rattle.text.specs.declared.fault.Fault.{Fault}
 use Rattle.text.specs.JobText.{Node-fits, Nodes-fit, node-slots, nodes-slots}
-use Rattle.text.specs.Slots.{Slot, Took, Stops}
+use Rattle.text.specs.Slots.{Took, Stops}
 use Rattle.text.proofs.Following.{took-append, stops-after, stops-more}
 
 nodes-append : (k : ℕ) (ms ns : List Node) → nodes-slots k (ms ++ ns) ≡ nodes-slots k ms ++ nodes-slots (k + length ms) ns

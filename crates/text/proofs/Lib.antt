@@ -9,3 +9,4 @@ pub mod Dues
 pub mod Following
 pub mod Graphs
 pub mod Drafts
+pub mod Engines

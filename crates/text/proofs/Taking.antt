@@ -1,17 +1,15 @@
 -- Lines taken from the front of a text.
 use mathlib.Core.Path.{_≡_, refl, sym, ap, subst, _∙_}
-use mathlib.Core.List.{List, [], _∷_, _++_}
-use Prim.Native.Nat.{ℕ, _+_, _<_, _≤_}
+use mathlib.Core.List.{List, _∷_, _++_}
+use Prim.Native.Nat.{ℕ, _+_, _≤_}
 use native.Mathlib.Omega.{arith}
 use lib.ListN.{length}
-use Rattle.std.specs.shelf.Lists.{All}
 use Rattle.std.proofs.shelf.Elements.{all-append, all-drop}
 use Rattle.std.proofs.shelf.Lists.{append-assoc, drop-at, length-append}
-use Rattle.text.specs.declared.fault.Fault.{Fault}
 use Rattle.text.specs.declared.key.Key.{Key}
 use Rattle.text.specs.declared.key.Key.the-variants.{Job, Period, Deadline, Nodes, Kind, Tag, Ticks, After, Engines, Marks}
-use Rattle.text.specs.Key.{key-bytes, sort-of}
-use Rattle.text.specs.Slots.{Slot, slot, text-of, In-range, Ranged, Taken, Took, Fails, Stops}
+use Rattle.text.specs.Key.{key-bytes}
+use Rattle.text.specs.Slots.{Taken}
 use Rattle.text.specs.Split.{Lacks, Cut}
 use Rattle.text.proofs.Cuts.{lacks-none, cut-front}
 

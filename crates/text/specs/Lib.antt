@@ -6,3 +6,4 @@ pub mod Texts
 pub mod Slots
 pub mod Take
 pub mod JobText
+pub mod PlatformText

@@ -2,7 +2,7 @@
 ghost use lib.ListN.{length, take};
 ghost use mathlib.Core.List.{List};
 ghost use mathlib.Core.Path.{_≡_};
-ghost use Prim.Native.Nat.{_+_, _<_, _≤_};
+ghost use Prim.Native.Nat.{_<_, _≤_};
 ghost use Rattle.std.specs.Results.{Cases};
 ghost use Rattle.task.specs.declared.node.Node.{Node};
 ghost use Rattle.task.specs.Flaws.{Header-fits, In-range, Made-of};

@@ -1,9 +1,8 @@
 use mathlib.Core.Path.{_≡_, sym, ap, _∙_, subst}
 use mathlib.Core.List.{_∷_, _++_}
-use Prim.Native.Nat.{_+_, _-_}
-use native.Mathlib.Omega.{arith}
+use Prim.Native.Nat.{_+_}
 use native.Mathlib.Nat.{sub-zero}
-use lib.ListN.{take, drop, getD}
+use lib.ListN.{take, drop}
 use Rattle.std.proofs.shelf.Elements.{all-more}
 use Rattle.std.proofs.shelf.Lists.{take-all, take-rest, take-append-drop, drop-more}
 use Rattle.text.specs.Split.{Lacks}

@@ -1,6 +1,5 @@
 use mathlib.Core.Logic.{inl, inr}
 use mathlib.Core.Path.{subst}
-use native.Mathlib.Omega.{arith}
 use Rattle.std.specs.shelf.Lists.{All}
 use Rattle.std.proofs.shelf.Elements.{all-more, all-getD}
 use Rattle.std.proofs.shelf.Lists.{take-all}

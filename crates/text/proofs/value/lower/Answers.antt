@@ -1,4 +1,4 @@
-use Prim.Native.Nat.{ℕ, _<_}
+use Prim.Native.Nat.{_<_}
 use native.Mathlib.Omega.{arith}
 use denote.Ref.{now}
 use Rattle.text.proofs.Commas.{begins-none, begins-some, begins-shorter, rises-begins, rises-bounds, lowered-none, lowered-more, lowered-all}

@@ -1,9 +1,7 @@
 use mathlib.Core.Path.{_≡_, sym, ap, subst, _∙_}
-use Prim.Native.Nat.{_+_, _*_, _<_, _≤_}
+use Prim.Native.Nat.{_<_}
 use native.Mathlib.Omega.{arith}
-use lib.ListN.{length, take, getD}
 use Rattle.std.specs.Reads.{value, Digits}
-use Rattle.std.specs.Text.{digitValue}
 use Rattle.std.proofs.shelf.Digits.{value-more, digits-more}
 use Rattle.std.proofs.shelf.Lists.{take-all, length-take}
 use Rattle.std.proofs.shelf.Tests.{both-ways}

@@ -1,5 +1,5 @@
 use mathlib.Core.Path.{sym}
-use Rattle.text.proofs.Dues.{number-took, number-missed, number-there}
+use Rattle.text.proofs.Dues.{number-took, number-missed}
 use Rattle.std.proofs.shelf.Results.{err-from-errBy}
 use Rattle.text.proofs.lines.Lines.number.Needs as need
 
