@@ -1,5 +1,7 @@
 //! Tables of texts and the answers that they get. Tests only.
 #[cfg(test)]
+mod answer_cases;
+#[cfg(test)]
 mod graph_cases;
 #[cfg(test)]
 mod job_cases;
@@ -8,15 +10,23 @@ mod platform_cases;
 
 #[cfg(test)]
 mod tests {
+    use crate::answer_cases::ANSWERS;
     use crate::graph_cases::JOB_FORKS;
     use crate::graph_cases::JOBS;
     use crate::job_cases::JOB_FORMS;
     use crate::job_cases::JOB_LINES;
     use crate::job_cases::JOB_RANGES;
     use crate::platform_cases::PLATFORMS;
+    use listing::answer::answer;
+    use slack::even::Even;
+    use slack::even::EvenRule;
+    use slack::proportional::Proportional;
+    use slack::proportional::ProportionalRule;
+    use slack::rule::SlackRule;
     use std::test::*;
     use text::job_text::read_job;
     use text::platform_text::read_platform;
+    use window::layout::Layout;
 
     // A text, the number of the first question that it fails, and the place; 0 and 0 for one that is read.
     pub type Case = (&'static [u8], u32, u32);
@@ -141,5 +151,32 @@ mod tests {
         check_eq(job.period, 1200)?;
         check_eq(job.deadline, 1000)?;
         check_eq(job.count, 5)
+    }
+
+    #[test]
+    fn answers(rt: LibcRuntime) -> Result<(), Fail> {
+        for (i, (text, expected)) in ANSWERS.iter().enumerate() {
+            let lines = answer(rt.alloc(), text)?;
+            check_eq(lines.as_str(), *expected).note(i)?;
+        }
+        Ok(())
+    }
+
+    // The local deadlines of the worked graph's sub-tasks under its second choice.
+    fn worked_deadlines<R: SlackRule>(rule: &R) -> Result<(u32, u32, u32), Fail> {
+        let [.., (text, _, _)] = JOBS;
+        match read_job(text) {
+            Ok(job) => {
+                let ends = Layout::of(&job, 1, rule).windows.deadline;
+                Ok((ends[0], ends[3], ends[4]))
+            }
+            Err(_) => Err(Fail::new("refused")),
+        }
+    }
+
+    #[test]
+    fn worked_windows() -> Result<(), Fail> {
+        check_eq(worked_deadlines(&Proportional)?, (222, 888, 1000))?;
+        check_eq(worked_deadlines(&Even)?, (233, 866, 1000))
     }
 }
