@@ -9,7 +9,7 @@ use Rattle.std.proofs.shelf.Lists.{append-assoc}
 use Rattle.std.proofs.shelf.Tests.{both-ways}
 use Rattle.text.specs.declared.fault.Fault.the-variants.{Range}
 use Rattle.text.specs.declared.key.Key.{Key}
-use Rattle.text.specs.declared.key.Key.the-variants.{After}
+use Rattle.text.specs.declared.key.Key.the-variants.{After, Kind}
 use Rattle.text.specs.declared.key.Sort as sorts
 use Rattle.text.specs.declared.lines.Lines.{Lines}
 use Rattle.text.specs.declared.value.Line.{Line}
@@ -58,3 +58,13 @@ dash-there bs values.the-variants.Dash m none = m .1
 -- the bytes of a list are those of the line, and rise
 pub list-there : (l : Lines) (line : Line) (m : Lines) (p : RefT (List ℕ)) (d : Due After l line m) → line .value ≡ values.the-variants.List p → (p .now ≡ d .bytes) × Rises (λ _. Unit {0}) 0 (d .bytes)
 list-there l line m p d e = let x = subst (Means sorts.the-variants.List (d .bytes)) e (d .means) in (x .0, x .2)
+
+-- a line of a kind has a word, the name of one
+pub word-there : (bs : List ℕ) (v : Value) → Means sorts.the-variants.Kind bs v → ((p : RefT (List ℕ)) → v ≡ values.the-variants.Word p → ⊥) → ⊥
+word-there bs (values.the-variants.Number n) m none = let z : _≡_ {A = ℕ} 0 1 = cc (m .0) in omega arith
+word-there bs (values.the-variants.Word p) m none = none p refl
+word-there bs (values.the-variants.List p) m none = let z : _≡_ {A = ℕ} 0 1 = cc (m .1) in omega arith
+word-there bs values.the-variants.Dash m none = let z : _≡_ {A = ℕ} 0 1 = cc (m .0) in omega arith
+
+pub kind-there : (l : Lines) (line : Line) (m : Lines) (p : RefT (List ℕ)) (d : Due Kind l line m) → line .value ≡ values.the-variants.Word p → (p .now ≡ d .bytes) × Form sorts.the-variants.Kind (d .bytes)
+kind-there l line m p d e = subst (Means sorts.the-variants.Kind (d .bytes)) e (d .means)

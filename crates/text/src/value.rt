@@ -129,11 +129,14 @@ pub(crate) fn lower(list: &[u8], node: usize) -> Option<After>
 pub(crate) fn kind_of(bytes: &[u8]) -> Option<Kind>
     ensures { λ r. ⌜ Cases r ((k : Kind) → now (bytes .entry) ≡ word k → ⊥) (λ k. now (bytes .entry) ≡ word k) ⌝ }
 {
-    match bytes {
-        b"subtask" => Some(Kind::SubTask),
-        b"alternative" => Some(Kind::Alternative),
-        b"conditional" => Some(Kind::Conditional),
-        _ => None,
+    if bytes == b"subtask" {
+        Some(Kind::SubTask)
+    } else if bytes == b"alternative" {
+        Some(Kind::Alternative)
+    } else if bytes == b"conditional" {
+        Some(Kind::Conditional)
+    } else {
+        None
     }
 }
 

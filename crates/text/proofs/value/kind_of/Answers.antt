@@ -1,15 +1,24 @@
-use native.Mathlib.Omega.{arith}
-use Rattle.std.proofs.shelf.Tests.{ltb-true, ltb-false}
+use mathlib.Core.Path.{_≡_}
+use Rattle.std.proofs.shelf.Equals.{matches-decides}
+use Rattle.std.proofs.shelf.Tests.{both-ways}
+use Rattle.text.specs.declared.value.Kind.{Kind}
 use Rattle.text.specs.declared.value.Kind.the-variants.{SubTask, Alternative, Conditional}
 use Rattle.text.specs.Value.{word}
-use Rattle.text.proofs.Fronts.{whole}
 use Rattle.text.proofs.value.kind_of.Needs as need
 
-pub returns-in-115 : need.returns-in-115
-returns-in-115 c = whole (word SubTask) (c .args .bytes .now) (omega (arith, ltb-true, ltb-false)) (omega (arith, ltb-false))
+pub returns-then-eq : need.returns-then-eq
+returns-then-eq c = matches-decides _ _ _ (c .eq .ensures) .0 (c .if-eq .taken)
 
-pub returns-in-97 : need.returns-in-97
-returns-in-97 c = whole (word Alternative) (c .args .bytes .now) (omega (arith, ltb-true, ltb-false)) (omega (arith, ltb-false))
+pub returns-then-eq-2 : need.returns-then-eq-2
+returns-then-eq-2 c = matches-decides _ _ _ (c .eq-else-eq .ensures) .0 (c .if-eq-2 .taken)
 
-pub returns-in-99 : need.returns-in-99
-returns-in-99 c = whole (word Conditional) (c .args .bytes .now) (omega (arith, ltb-true, ltb-false)) (omega (arith, ltb-false))
+pub returns-then-eq-3 : need.returns-then-eq-3
+returns-then-eq-3 c = matches-decides _ _ _ (c .eq-else-eq-2 .ensures) .0 (c .if-eq-3 .taken)
+
+pub returns-else-eq-3 : need.returns-else-eq-3
+returns-else-eq-3 c = none
+  where
+    none : (k : Kind) → c .args .bytes .now ≡ word k → ⊥
+    none SubTask e = both-ways _ (c .if-eq .left) (matches-decides _ _ _ (c .eq .ensures) .1 e)
+    none Alternative e = both-ways _ (c .if-eq-2 .left) (matches-decides _ _ _ (c .eq-else-eq .ensures) .1 e)
+    none Conditional e = both-ways _ (c .if-eq-3 .left) (matches-decides _ _ _ (c .eq-else-eq-2 .ensures) .1 e)
