@@ -34,7 +34,7 @@ pub enum Node {
 }
 
 /// The node that fills a table after the last one.
-pub(crate) const BLANK: Node = Node::SubTask {
+pub const BLANK: Node = Node::SubTask {
     tag: 0,
     ticks: 1,
     after: [false; NODES],

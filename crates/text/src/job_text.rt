@@ -14,6 +14,7 @@ use crate::key::Key;
 use crate::lines::Lines;
 use crate::value::Kind;
 use task::job::Job;
+use task::node::BLANK;
 use task::node::NODES;
 use task::node::Node;
 use task::sound::Flaw;
@@ -26,13 +27,6 @@ struct Header {
     deadline: u32,
     count: u32,
 }
-
-/// What stands for a node that is not read yet.
-const UNREAD: Node = Node::SubTask {
-    tag: 0,
-    ticks: 1,
-    after: [false; NODES],
-};
 
 impl Lines<'_> {
     /// Takes the lines before the nodes.
@@ -79,7 +73,7 @@ impl Lines<'_> {
         requires { ⌜ count ≤ 24 ⌝ }
         ensures { λ r. ⌜ Cases r (λ table. (length (take count table) ≡ count) × Takes (nodes-slots 0 (take count table)) (now (self .entry)) (now (self .exit)) × Nodes-fit (take count table)) (λ f. (ns : List Node) × (length ns ≡ count) × Refuses (nodes-slots 0 ns) (now (self .entry)) f) ⌝ }
     {
-        let mut table = [UNREAD; NODES];
+        let mut table = [BLANK; NODES];
         for v in 0..count {
             table[v] = self.node(v)?;
         }
