@@ -1,0 +1,5 @@
+pub mod Roster
+pub mod Supply
+pub mod Tags
+pub mod TagLaws
+pub mod Whole

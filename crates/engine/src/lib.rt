@@ -1,0 +1,6 @@
+//! Engines: who they are, what they serve, and in which order they are tried.
+pub mod roll;
+pub mod roster;
+pub mod supply;
+pub mod tags;
+pub mod whole;
