@@ -9,7 +9,7 @@ use lib.ListN.{length}
 use Rattle.cyclic.specs.Ones.{ones}
 use Rattle.cyclic.specs.Least.{least}
 use Rattle.cyclic.specs.Fewest.{fewest}
-use Rattle.cyclic.specs.OnesLaws.{mark-one, ones-none, ones-more, ones-join, ones-mod, ones-whole}
+use Rattle.cyclic.specs.OnesLaws.{mark-one, ones-none, ones-more, ones-join, ones-mod, ones-whole, ones-few}
 use Rattle.cyclic.specs.LeastLaws.{least-at, least-found}
 
 module _ (marks : List Bool) (some : 1 ≤ length marks) where
@@ -103,4 +103,10 @@ module _ (marks : List Bool) (some : 1 ≤ length marks) where
       let again = fewest-repeats 0 in
       let none = fewest-none in
       let same = ap (fewest marks) (zero-add (length marks)) in
+      omega arith
+
+  pub fewest-few : (n : ℕ) → fewest marks n ≤ n
+  fewest-few n =
+      let here = fewest-any n 0 in
+      let few = ones-few marks 0 n in
       omega arith

@@ -80,3 +80,11 @@ ones-whole marks (suc i) =
     let next : i + 1 ≡ suc i = omega arith in
     let there = ap (λ (j : ℕ). ones marks j (length marks)) next in
     omega arith
+
+pub ones-few : (marks : List Bool) (i n : ℕ) → ones marks i n ≤ n
+unfolding ones
+ones-few marks i zero = omega arith
+ones-few marks i (suc n) =
+    let rec = ones-few marks i n in
+    let one = mark-one marks (i + n) in
+    omega arith

@@ -1,5 +1,7 @@
 pub mod Roster
 pub mod Supply
+pub mod Course
+pub mod Marks
 pub mod Tags
 pub mod TagLaws
 pub mod Whole
