@@ -1,5 +1,6 @@
 pub mod Roster
 pub mod Supply
+pub mod Calendar
 pub mod Course
 pub mod Marks
 pub mod Tags

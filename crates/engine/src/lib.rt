@@ -1,4 +1,5 @@
 //! Engines: who they are, what they serve, and in which order they are tried.
+pub mod calendar;
 pub mod course;
 pub mod marks;
 pub mod roll;
