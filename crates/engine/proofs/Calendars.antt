@@ -48,7 +48,7 @@ none-served n cs e past =
     record {
       idle = λ k. ap (λ (ms : List Bool). fewest ms k) is ∙ fewest-idle k;
       one = ap length is;
-      nothing = ap (λ (ms : List Bool). ones ms 0 (length ms)) is ∙ ones-idle 0 1
+      nothing = ap (λ (ms : List Bool). ones ms 0 (length ms)) is ∙ ones-idle 0 1;
     }
 
 -- the first course, one more, and all
@@ -60,7 +60,7 @@ pub more-courses : (ms : List Marks) (cs : List Course) (e : ℕ) (d : Marks) (c
 more-courses ms cs e d c low inside is fit was = (
   all-more Fit ms e d low fit (is .0),
   ap (map served) (take-more-set cs e c inside)
-  ∙ (map-push served (take e cs) c ∙ (ap (λ (xs : List (List Bool)). xs ++ served c ∷ []) was ∙ (ap (λ (x : Marks). map marked (take e ms) ++ marked x ∷ []) (is .1) ∙ sym (map-more marked ms e d low)))),
+      ∙ (map-push served (take e cs) c ∙ (ap (λ (xs : List (List Bool)). xs ++ served c ∷ []) was ∙ (ap (λ (x : Marks). map marked (take e ms) ++ marked x ∷ []) (is .1) ∙ sym (map-more marked ms e d low)))),
 )
 
 pub all-courses : (ms : List Marks) (cs : List Course) (e : ℕ) → e ≡ length ms → All-fit (take e ms) → calendar e cs ≡ map marked (take e ms) → All-fit ms × (calendar (length ms) cs ≡ map marked ms)

@@ -34,13 +34,13 @@ module _ (m : Marks) (some : 1 ≤ m .length) (short : m .length ≤ 240) (sized
   fit-if : 14400 % m .length ≡ 0 → (r : Bool) → Decides r (Has (marked m) true) → Decides r (Fit m)
   fit-if divides r has = (
     λ yes′.
-      let (k, low, is) = has .0 yes′ in
-      let low′ : k < m .length = omega (arith, marked-long) in
-      record { sized = sized; some = some; short = short; divides = divides; serves = (k, low′, sym (marked-at k low′) ∙ is false) },
+        let (k, low, is) = has .0 yes′ in
+        let low′ : k < m .length = omega (arith, marked-long) in
+        record { sized = sized; some = some; short = short; divides = divides; serves = (k, low′, sym (marked-at k low′) ∙ is false) },
     λ fit.
-      let (k, low, is) = fit .serves in
-      let low′ : k < length (marked m) = omega (arith, marked-long) in
-      has .1 (k, low′, λ d. getD-default (marked m) k d false low′ ∙ (marked-at k low ∙ is)),
+        let (k, low, is) = fit .serves in
+        let low′ : k < length (marked m) = omega (arith, marked-long) in
+        has .1 (k, low′, λ d. getD-default (marked m) k d false low′ ∙ (marked-at k low ∙ is)),
   )
 
   pub fit-if-serves : 14400 % m .length ≡ 0 → (n : ℕ) → n ≡ m .length → (r : Bool) → Decides r (Has (take n (m .table)) true) → Decides r (Fit m)

@@ -15,13 +15,13 @@ module _ (c : Course) where
   served-some = omega (arith, served-long c, c .some)
 
   pub quota-is : getD (c .least) (c .marks .length) 0 ≡ ones (served c) 0 (length (served c))
-  quota-is = c .fewest (c .marks .length) (omega arith) ∙ (ap (fewest (served c)) (sym (served-long c)) ∙ fewest-whole (served c) served-some)
+  quota-is = c .tabled (c .marks .length) (omega arith) ∙ (ap (fewest (served c)) (sym (served-long c)) ∙ fewest-whole (served c) served-some)
 
   pub supply-is : (n p q : ℕ) → p ≡ length (served c) → q ≡ ones (served c) 0 (length (served c)) → n / p * q + getD (c .least) (n % p) 0 ≡ fewest (served c) n
   supply-is n p q cycle quota =
       let some : 0 < p = omega (arith, served-some) in
       let low = mod-lt n some in
-      let here = c .fewest (n % p) (omega (arith, served-long c)) in
+      let here = c .tabled (n % p) (omega (arith, served-long c)) in
       let parted = fewest-parted (served c) served-some n in
       let turns = ap (λ (k : ℕ). n / k * q) cycle in
       let turns′ = ap (λ (k : ℕ). n / length (served c) * k) quota in

@@ -4,10 +4,11 @@
 --   marks-of n cs e     the marks of the engine e
 --   supply-of, cycle-of, quota-of n cs e    its supply in so many ticks, its cycle and its quota
 --   All-fit ms          the marks of each engine are fit
-use mathlib.Core.Path.{_≡_, refl, sym, ap, subst, _∙_}
+--   Matching n ms       there are marks for n engines, and all are fit
+use mathlib.Core.Path.{_≡_, refl}
 use mathlib.Core.List.{List, [], _∷_, map}
 use mathlib.Core.Bool.{Bool, false}
-use Prim.Native.Nat.{ℕ, zero, suc, _+_, _%_, _≤_}
+use Prim.Native.Nat.{ℕ, zero, suc}
 use native.Mathlib.Omega.{arith}
 use lib.ListN.{length, getD, take}
 use Rattle.std.specs.shelf.Lists.{All}
@@ -39,6 +40,10 @@ quota-of n cs e = ones (marks-of n cs e) 0 (cycle-of n cs e)
 
 abbrev pub All-fit : List Marks → Type 0
 All-fit ms = All Fit ms
+
+pub record Matching (n : ℕ) (ms : List Marks) : Type 0 where
+  pub many : length ms ≡ n
+  pub fit : All-fit ms
 
 laws-at : (cs : List Course) (e : ℕ) → Lawful (fewest (getD (map served cs) e idle)) (length (getD (map served cs) e idle)) (ones (getD (map served cs) e idle) 0 (length (getD (map served cs) e idle)))
 laws-at [] e = laws-of-marks idle (omega arith) refl

@@ -1,6 +1,6 @@
 -- The served ticks of an engine, and its laws.
 --   served c    the marks of the course, true for a served tick
-use mathlib.Core.Path.{_≡_, refl, sym, ap, subst, _∙_}
+use mathlib.Core.Path.{_≡_, ap, _∙_}
 use mathlib.Core.List.{List}
 use mathlib.Core.Bool.{Bool}
 use Prim.Native.Nat.{ℕ, _%_, _≤_}
@@ -24,7 +24,7 @@ laws-of-marks marks some divides = record {
   grows = fewest-grows marks some;
   by-one = fewest-by-one marks some;
   joins = fewest-joins marks some;
-  repeats = fewest-repeats marks some
+  repeats = fewest-repeats marks some;
 }
 
 pub served-long : (c : Course) → length (served c) ≡ c .marks .length

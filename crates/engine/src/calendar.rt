@@ -3,7 +3,7 @@ ghost use lib.ListN.{length};
 ghost use mathlib.Core.List.{map};
 ghost use mathlib.Core.Path.{_≡_};
 ghost use Prim.Native.Nat.{_≤_};
-ghost use Rattle.engine.specs.Calendar.{All-fit, calendar, calendar-laws, cycle-of, quota-of, supply-of};
+ghost use Rattle.engine.specs.Calendar.{All-fit, Matching, calendar, calendar-laws, cycle-of, quota-of, supply-of};
 ghost use Rattle.engine.specs.Marks.{marked};
 ghost use Rattle.engine.specs.TagLaws.{rostered-tags};
 ghost use Rattle.engine.specs.Tags.{tag-list};
@@ -19,8 +19,8 @@ use crate::tags::Tags;
 /// Engines that serve the ticks of their marks, over and over.
 #[derive(Clone, Copy)]
 pub struct Calendar {
-    pub(crate) tags: Tags,
-    pub(crate) courses: [Course; ENGINES],
+    tags: Tags,
+    courses: [Course; ENGINES],
     ghost sized: { length courses ≡ 16 },
 }
 
@@ -39,7 +39,7 @@ fn courses(marks: &[Marks]) -> Option<[Course; ENGINES]>
 impl Calendar {
     /// The platform of these tags and marks; nothing where there are not as many marks as tags, or some are not fit.
     pub fn new(tags: Tags, marks: &[Marks]) -> Option<Calendar>
-        ensures { λ r. ⌜ Cases r ((length (now (marks .entry)) ≡ tags .count) × All-fit (now (marks .entry)) → ⊥) (λ p. (p .tags ≡ tags) × (length (now (marks .entry)) ≡ tags .count) × All-fit (now (marks .entry)) × (calendar (p .tags .count) (p .courses) ≡ map marked (now (marks .entry)))) ⌝ }
+        ensures { λ r. ⌜ Cases r (Matching (tags .count) (now (marks .entry)) → ⊥) (λ p. Matching (tags .count) (now (marks .entry)) × (p .tags ≡ tags) × (calendar (tags .count) (p .courses) ≡ map marked (now (marks .entry)))) ⌝ }
     {
         if marks.len() != tags.count {
             return None;

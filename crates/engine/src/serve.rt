@@ -13,7 +13,7 @@ use crate::sums::Sums;
 
 impl Course {
     /// The course of these marks; nothing where they are not fit.
-    pub fn new(marks: &Marks) -> Option<Course>
+    pub(crate) fn new(marks: &Marks) -> Option<Course>
         ensures { λ r. ⌜ Cases r (Fit (now (marks .entry)) → ⊥) (λ c. Fit (now (marks .entry)) × (c .marks ≡ now (marks .entry))) ⌝ }
     {
         if !marks.is_fit() {
@@ -26,21 +26,21 @@ impl Course {
     }
 
     /// After so many ticks it repeats.
-    pub fn cycle(&self) -> u32
+    pub(crate) fn cycle(&self) -> u32
         ensures { λ r. ⌜ r ≡ length (served (now (self .entry))) ⌝ }
     {
         self.marks.length as u32
     }
 
     /// The served ticks in a cycle.
-    pub fn quota(&self) -> u32
+    pub(crate) fn quota(&self) -> u32
         ensures { λ r. ⌜ r ≡ ones (served (now (self .entry))) 0 (length (served (now (self .entry)))) ⌝ }
     {
         self.least[self.marks.length]
     }
 
     /// The fewest served ticks among so many in a row.
-    pub fn supply(&self, ticks: u32) -> u32
+    pub(crate) fn supply(&self, ticks: u32) -> u32
         requires { ⌜ ticks ≤ 28800 ⌝ }
         ensures { λ r. ⌜ r ≡ fewest (served (now (self .entry))) ticks ⌝ }
     {

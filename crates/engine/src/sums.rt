@@ -5,14 +5,13 @@ ghost use Prim.Native.Nat.{ℕ, _+_, _≤_};
 ghost use Rattle.cyclic.specs.Fewest.{fewest};
 ghost use Rattle.cyclic.specs.Ones.{ones};
 ghost use Rattle.engine.specs.Marks.{Fit, marked};
-use crate::marks::MARKS;
 use crate::marks::Marks;
 
 /// The places of a table from 0 to two rounds of marks.
 const SUMS: usize = 481;
 
 /// The places of a table from 0 to a round of marks.
-pub const ROUND: usize = 241;
+pub(crate) const ROUND: usize = 241;
 
 /// Marks, and for each k up to two rounds of them how many of the first k are true.
 #[derive(Clone, Copy)]
