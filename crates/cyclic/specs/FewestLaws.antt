@@ -7,7 +7,6 @@ use native.Mathlib.Nat.{zero-add, mod-lt, div-add-mod'}
 use native.Mathlib.Omega.{arith}
 use lib.ListN.{length}
 use Rattle.cyclic.specs.Ones.{ones}
-use Rattle.cyclic.specs.Least.{least}
 use Rattle.cyclic.specs.Fewest.{fewest}
 use Rattle.cyclic.specs.OnesLaws.{mark-one, ones-none, ones-more, ones-join, ones-mod, ones-whole, ones-few}
 use Rattle.cyclic.specs.LeastLaws.{least-at, least-found}

@@ -24,6 +24,7 @@ pub(crate) struct Sums {
     ghost summed: { ((k : ℕ) → k ≤ marks .length + marks .length → getD table k 0 ≡ ones (marked marks) 0 k) },
 }
 
+/// For each k up to two rounds of the marks how many of the first k are true.
 fn summed(marks: &Marks) -> [u32; SUMS]
     requires { ⌜ Fit (now marks) ⌝ }
     ensures { λ r. ⌜ ((k : ℕ) → k ≤ now (marks .entry) .length + now (marks .entry) .length → getD r k 0 ≡ ones (marked (now (marks .entry))) 0 k) ⌝ }

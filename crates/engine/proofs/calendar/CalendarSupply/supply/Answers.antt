@@ -4,7 +4,6 @@ use mathlib.Core.Bool.{Bool}
 use Prim.Native.Nat.{min}
 use native.Mathlib.Omega.{arith}
 use Rattle.cyclic.specs.Fewest.{fewest}
-use Rattle.engine.specs.Course.{served}
 use Rattle.engine.proofs.Calendars.{marks-at, none-served}
 use Rattle.engine.proofs.calendar.CalendarSupply.supply.Needs as need
 

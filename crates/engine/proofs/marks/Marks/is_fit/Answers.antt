@@ -2,7 +2,6 @@ use Prim.Native.Nat.{_-_, _≤_, _%_}
 use mathlib.Core.Path.{_≡_}
 use native.Mathlib.Omega.{arith}
 use lib.ListN.{length}
-use Rattle.engine.specs.Marks.{marked}
 use Rattle.engine.proofs.Marking.{fit-if-serves}
 use Rattle.std.proofs.shelf.Elements.{has-from-contains}
 use Rattle.engine.proofs.marks.Marks.is_fit.Needs as need
