@@ -20,4 +20,5 @@ rostered-tags t =
     record {
       some = omega (arith, t .some, t .few, t .sized);
       few = omega (arith, t .few);
-      small = all-small (t .count) (t .table) (t .small) }
+      small = all-small (t .count) (t .table) (t .small);
+    }

@@ -47,7 +47,10 @@ impl Tags {
         if !is_roster(tags) {
             return None;
         }
-        Some(Tags { count: tags.len(), table: filled(tags) })
+        Some(Tags {
+            count: tags.len(),
+            table: filled(tags),
+        })
     }
 
     /// The tag of an engine; nothing where there is no such engine.

@@ -13,10 +13,11 @@ loop-e-again c =
     let was = c .loop-e .table in
     let tags = c .args .tags .now in
     let x = getD tags e 0 in
-    let room : e < length was = omega (arith, c .loop-e .inv .0, c .loop-e-test .taken, c .pre) in
-    (length-set was e x ∙ c .loop-e .inv .0,
-     take-more-set was e x room ∙ ap (λ l. l ++ x ∷ []) (c .loop-e .inv .1) ∙ sym (take-more tags e 0 (c .loop-e-test .taken)),
-     λ k past. let ne : k ≢ e = omega arith in getD-set-other was e k x 0 ne ∙ c .loop-e .inv .2 k (omega arith))
+    let room : e < length was = omega (arith, c .loop-e .inv .0, c .loop-e-test .taken, c .pre) in (
+      length-set was e x ∙ c .loop-e .inv .0,
+      take-more-set was e x room ∙ ap (λ l. l ++ x ∷ []) (c .loop-e .inv .1) ∙ sym (take-more tags e 0 (c .loop-e-test .taken)),
+      λ k past. let ne : k ≢ e = omega arith in getD-set-other was e k x 0 ne ∙ c .loop-e .inv .2 k (omega arith),
+    )
 
 pub returns : need.returns
 returns c =
@@ -25,4 +26,5 @@ returns c =
     record {
       size = c .loop-e .inv .0;
       tags = rw ends at (c .loop-e .inv .1) ∙ take-all (length tags) tags (omega arith);
-      rest = λ e past. c .loop-e .inv .2 e (omega arith) }
+      rest = λ e past. c .loop-e .inv .2 e (omega arith);
+    }
