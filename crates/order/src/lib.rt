@@ -1,0 +1,2 @@
+//! The order in which engines are tried.
+pub mod least;
