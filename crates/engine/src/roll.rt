@@ -22,6 +22,7 @@ fn is_small(tags: &[u32]) -> bool
 
 fn filled(tags: &[u32]) -> [u32; ENGINES]
     requires { ⌜ length (now tags) ≤ 16 ⌝ }
+    ensures size { λ r. ⌜ length r ≡ 16 ⌝ }
     ensures tags { λ r. ⌜ take (length (now (tags .entry))) r ≡ now (tags .entry) ⌝ }
     ensures rest { λ r. ⌜ ((e : ℕ) → length (now (tags .entry)) ≤ e → getD r e 0 ≡ 0) ⌝ }
 {
@@ -32,12 +33,18 @@ fn filled(tags: &[u32]) -> [u32; ENGINES]
     table
 }
 
+fn is_roster(tags: &[u32]) -> bool
+    ensures { λ r. ⌜ Decides r (Rostered (now (tags .entry))) ⌝ }
+{
+    1 <= tags.len() && tags.len() <= ENGINES && is_small(tags)
+}
+
 impl Tags {
     /// The table of these tags; nothing where they are not 1 to 16 or one is above 7.
     pub fn new(tags: &[u32]) -> Option<Tags>
         ensures { λ r. ⌜ Cases r (Rostered (now (tags .entry)) → ⊥) (λ t. tag-list t ≡ now (tags .entry)) ⌝ }
     {
-        if tags.is_empty() || tags.len() > ENGINES || !is_small(tags) {
+        if !is_roster(tags) {
             return None;
         }
         Some(Tags { count: tags.len(), table: filled(tags) })

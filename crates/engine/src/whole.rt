@@ -7,6 +7,9 @@ use crate::supply::FARTHEST;
 use crate::supply::Supply;
 use crate::tags::Tags;
 
+/// Every tick is like the one before.
+const CYCLE: u32 = 1;
+
 /// Engines that serve every tick.
 #[derive(Clone, Copy)]
 pub struct Whole {
@@ -45,14 +48,10 @@ pub impl Supply for Whole as WholeSupply {
     }
 
     fn cycle(&self, _engine: usize) -> u32 {
-        1
+        CYCLE
     }
 
     fn quota(&self, engine: usize) -> u32 {
-        if engine < self.tags.count {
-            1
-        } else {
-            0
-        }
+        u32::from(engine < self.tags.count)
     }
 }
