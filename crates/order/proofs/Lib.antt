@@ -1,1 +1,3 @@
 pub mod Firsts
+pub mod Seeking
+pub mod Places

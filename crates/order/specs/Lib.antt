@@ -1,1 +1,5 @@
 pub mod Least
+pub mod Listing
+pub mod ListingLaws
+pub mod Rota
+pub mod RotaLaws
