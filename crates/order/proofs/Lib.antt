@@ -1,3 +1,7 @@
 pub mod Firsts
-pub mod Seeking
+pub mod Gathering
+pub mod Loads
 pub mod Places
+pub mod Rows
+pub mod Seeking
+pub mod Sorts

@@ -35,21 +35,25 @@ kept-fails : (p : ℕ → Bool) (i : ℕ) (l : List ℕ) → p i ≡ false → (
 kept-fails p i l fails true = rw fails refl
 kept-fails p i l fails false = refl
 
+module _ (tags : List ℕ) (tag i : ℕ) (in′ : i < length tags) where
+  from-is : engines-from i (drop i tags) tag ≡ cond (eqb (getD tags i 0) tag) (i ∷ engines-from (i + 1) (drop (i + 1) tags) tag) (engines-from (i + 1) (drop (i + 1) tags) tag)
+  from-is = ap (λ ts. engines-from i ts tag) (drop-more tags i 0 in′) ∙ rw add-one refl
+
+  pub from-other : (tag-of tags i ≡ Some tag → ⊥) → engines-from i (drop i tags) tag ≡ engines-from (i + 1) (drop (i + 1) tags) tag
+  from-other isn't = let no′ : eqb (getD tags i 0) tag ≡ false = ne-eqb (getD tags i 0) tag (λ is. isn't (tag-at tags i in′ ∙ ap Some is)) in from-is ∙ rw no′ refl
+
+  pub from-tagged : tag-of tags i ≡ Some tag → engines-from i (drop i tags) tag ≡ i ∷ engines-from (i + 1) (drop (i + 1) tags) tag
+  from-tagged is = let yes′ : eqb (getD tags i 0) tag ≡ true = eq-eqb (getD tags i 0) tag (some-same (sym (tag-at tags i in′) ∙ is)) in from-is ∙ rw yes′ refl
+
 module _ (p : ℕ → Bool) (tags : List ℕ) (tag i : ℕ) (in′ : i < length tags) where
-  left-is : left p tags tag i ≡ kept-by p (cond (eqb (getD tags i 0) tag) (i ∷ engines-from (i + 1) (drop (i + 1) tags) tag) (engines-from (i + 1) (drop (i + 1) tags) tag))
-  left-is = ap (λ ts. kept-by p (engines-from i ts tag)) (drop-more tags i 0 in′) ∙ rw add-one refl
-
   pub left-other : (tag-of tags i ≡ Some tag → ⊥) → left p tags tag i ≡ left p tags tag (i + 1)
-  left-other isn't = let no′ : eqb (getD tags i 0) tag ≡ false = ne-eqb (getD tags i 0) tag (λ is. isn't (tag-at tags i in′ ∙ ap Some is)) in left-is ∙ rw no′ refl
-
-  tagged : tag-of tags i ≡ Some tag → eqb (getD tags i 0) tag ≡ true
-  tagged is = eq-eqb (getD tags i 0) tag (some-same (sym (tag-at tags i in′) ∙ is))
+  left-other isn't = ap (kept-by p) (from-other tags tag i in′ isn't)
 
   pub left-fails : p i ≡ false → left p tags tag i ≡ left p tags tag (i + 1)
-  left-fails fails = left-is ∙ kept-fails p i (engines-from (i + 1) (drop (i + 1) tags) tag) fails (eqb (getD tags i 0) tag)
+  left-fails fails = ap (kept-by p) (from-is tags tag i in′) ∙ kept-fails p i (engines-from (i + 1) (drop (i + 1) tags) tag) fails (eqb (getD tags i 0) tag)
 
   pub left-passes : tag-of tags i ≡ Some tag → p i ≡ true → left p tags tag i ≡ i ∷ left p tags tag (i + 1)
-  left-passes is passes = let yes′ = tagged is in left-is ∙ rw (yes′, passes) refl
+  left-passes is passes = ap (kept-by p) (from-tagged tags tag i in′ is) ∙ rw passes refl
 
 module _ (p : ℕ → Bool) (tags : List ℕ) (tag place i rest : ℕ) (s : Seeking p tags tag place i rest) where
   pub seek-skip : left p tags tag i ≡ left p tags tag (i + 1) → (will : ℕ) → will ≡ rest → Seeking p tags tag place (i + 1) will
