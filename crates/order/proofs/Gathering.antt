@@ -3,11 +3,10 @@ use mathlib.Core.Path.{_≡_, refl, sym, ap, _∙_}
 use mathlib.Core.Bool.{Bool, true, false, cond}
 use mathlib.Core.List.{List, [], _∷_, _++_, map}
 use Prim.Native.Nat.{ℕ, _+_, _<_, _≤_}
-use native.Mathlib.Omega.{arith}
-use lib.ListN.{length, getD, set, take, drop}
+use lib.ListN.{length, set, take, drop}
 use Rattle.order.specs.declared.candidate.Candidate.{Candidate}
 use Rattle.order.specs.Fullest.{ahead, before, candidate}
-use Rattle.order.specs.Listing.{engines-from, engines-of}
+use Rattle.order.specs.Listing.{engines-from}
 use Rattle.order.specs.Sorting.{put, sorted}
 use Rattle.std.proofs.shelf.Lists.{append-assoc, append-nil, drop-all, take-more-set}
 

@@ -1,5 +1,6 @@
 pub mod Firsts
 pub mod Gathering
+pub mod Listed
 pub mod Loads
 pub mod Places
 pub mod Rows

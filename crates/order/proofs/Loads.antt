@@ -1,12 +1,10 @@
 -- The order by load is total.
-use mathlib.Core.Path.{_≡_, refl, sym, ap, _∙_}
-use mathlib.Core.Bool.{Bool, true, false, cond, _&&_, _||_}
+use mathlib.Core.Path.{_≡_}
+use mathlib.Core.Bool.{true, false}
 use mathlib.Core.List.{List}
 use Prim.Native.Nat.{ℕ}
 use native.Mathlib.Omega.{arith}
-use lib.Dec.{eqb, ltb}
 use lib.ListN.{getD}
-use Rattle.order.specs.declared.candidate.Candidate.{Candidate}
 use Rattle.order.specs.Fullest.{is-before, before, ahead}
 use Rattle.order.proofs.Sorts.{Strict}
 use Rattle.std.proofs.shelf.Ways.{tells}

@@ -11,7 +11,7 @@ use Rattle.order.specs.Rota.{remembered, rota-list, rota-listing, side}
 use Rattle.std.proofs.shelf.Maps.{nth-past}
 use Rattle.std.specs.Results.{Cases, okPart}
 use Rattle.std.specs.declared.option.Option.{Option}
-use Rattle.std.specs.declared.option.Option.the-variants.{Some, None}
+use Rattle.std.specs.declared.option.Option.the-variants.{Some}
 use Rattle.std.specs.declared.result.Result.{Result}
 use Rattle.std.specs.declared.result.Result.the-variants.{Ok, Err}
 use Rattle.std.specs.shelf.Maps.{nth}

@@ -1,7 +1,7 @@
 -- Taking the first out of a row.
 use mathlib.Core.Path.{_≡_, refl, sym, ap, subst, _∙_}
 use mathlib.Core.Bool.{Bool, true, false, cond}
-use mathlib.Core.List.{List, [], _∷_, _++_, map}
+use mathlib.Core.List.{List, [], _∷_, map}
 use mathlib.Core.Logic.{_⊎_, inl, inr}
 use Prim.Native.Nat.{ℕ, zero, suc, _+_, _-_, _<_, _≤_}
 use native.Mathlib.Omega.{arith}
@@ -13,7 +13,7 @@ use Rattle.order.specs.Sorting.{put, sorted}
 use Rattle.order.proofs.Loads.{ahead-strict}
 use Rattle.order.proofs.Sorts.{all-sorted, sorted-push, sorted-set, put-first}
 use Rattle.std.proofs.shelf.Elements.{all-take, all-set, all-getD, all-from-getD}
-use Rattle.std.proofs.shelf.Lists.{getD-take, getD-default, length-take-le, take-more, take-set, take-take}
+use Rattle.std.proofs.shelf.Lists.{getD-take, length-take-le, take-more, take-set, take-take}
 use Rattle.std.proofs.shelf.Tests.{true≢false, false≢true, cases-order, cases-eq}
 use Rattle.std.specs.Keys.{Total}
 use Rattle.std.specs.Orderings.{isLt, reversed}

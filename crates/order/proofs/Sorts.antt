@@ -1,13 +1,13 @@
 -- Lists sorted by a total order.
 use mathlib.Core.Path.{_≡_, refl, sym, ap, _∙_}
 use mathlib.Core.Bool.{Bool, true, false, cond}
-use mathlib.Core.List.{List, [], _∷_, _++_, map}
-use Prim.Native.Nat.{ℕ, zero, suc, _+_, _<_, _≤_}
+use mathlib.Core.List.{List, [], _∷_, _++_}
+use Prim.Native.Nat.{ℕ, zero, suc, _<_}
 use native.Mathlib.Omega.{arith}
-use lib.ListN.{length, getD, set, take}
+use lib.ListN.{length, getD, set}
 use Rattle.order.specs.Sorting.{put, sorted, In-order}
 use Rattle.std.proofs.shelf.Elements.{all-weaker}
-use Rattle.std.proofs.shelf.Tests.{true≢false, cond-both, both-ways}
+use Rattle.std.proofs.shelf.Tests.{true≢false, cond-both}
 use Rattle.std.specs.shelf.Lists.{All}
 
 -- before is a total order: of two that differ one comes before the other

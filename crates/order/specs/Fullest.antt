@@ -1,10 +1,10 @@
 -- The engines of a tag, those with most load first.
---   is-before m n a b                              the engine a with load m is tried before the engine b with load n: it has more load, or as much and the lower number
---   before loads a b                               the same of two engines, by the loads of all
+--   is-before m n a b                                the engine a with load m is tried before the engine b with load n: it has more load, or as much and the lower number
+--   before loads a b                                 the same of two engines, by the loads of all
 --   fullest-listing order tellings tags tag loads    the engines of the tag so sorted, whatever was told
---   candidate loads e                              an engine with its load
---   ahead, ranking                                 the order of candidates
---   engines-in row                                 the engines of the candidates left in a row, sorted
+--   candidate loads e                                an engine with its load
+--   ahead c d, ranking c d                           the same order of candidates, as a test and as a comparison
+--   engines-in row                                   the engines of the candidates left in a row, sorted
 use mathlib.Core.Bool.{Bool, cond, _&&_, _||_}
 use mathlib.Core.List.{List, map}
 use Prim.Native.Nat.{ℕ}

@@ -5,7 +5,7 @@
 --   last-told was tellings tag                   the engine last told of the tag, or what was before
 --   rota-listing rota tellings tags tag loads    the engines of the tag in turn, from after the last that took a part of it; of a tag above 7 none is remembered
 --   side tags tag last after                     the engines of the tag after the last, or the others
-use mathlib.Core.Bool.{Bool, true, false, cond, not}
+use mathlib.Core.Bool.{Bool, true, cond, not}
 use mathlib.Core.List.{List, [], _∷_, _++_}
 use Prim.Native.Nat.{ℕ}
 use lib.Dec.{eqb, ltb}
