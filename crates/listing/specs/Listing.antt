@@ -11,9 +11,10 @@ use Rattle.listing.specs.Lines.{refusal-line}
 use Rattle.std.specs.declared.option.Option.{Option}
 use Rattle.std.specs.declared.option.Option.the-variants.{Some, None}
 use Rattle.text.specs.declared.fault.Fault.{Fault}
-use Rattle.text.specs.declared.platform_text.Platform.{Platform}
+use Rattle.engine.specs.declared.calendar.Calendar.{Calendar}
 use Rattle.text.specs.Fault.{number-of, place-of}
-use Rattle.text.specs.PlatformText.{Reads, Refused}
+use Rattle.text.specs.CalendarText.{Calendar-reads}
+use Rattle.text.specs.PlatformText.{Refused}
 use Rattle.text.specs.Texts.{First}
 
 pub data Answered : Option (List ℕ) → List ℕ → Type 0 where
@@ -39,8 +40,8 @@ pub record All-answered (input bs : List ℕ) : Type 0 where
   pub text : List ℕ
   pub more : Option (List ℕ)
   pub parted : First input text more
-  pub platform : Platform
-  pub reads : Reads text platform
+  pub platform : Calendar
+  pub reads : Calendar-reads text platform
   pub answered : Answered more bs
 
 abbrev pub Lists : List ℕ → List ℕ → Type 0

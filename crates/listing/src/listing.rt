@@ -9,7 +9,7 @@ use crate::answer::answer;
 use crate::lines::refusal_line;
 use std::alloc::AllocError;
 use std::alloc::Global;
-use text::platform_text::read_platform;
+use text::calendar_text::read_calendar;
 use text::texts::first_text;
 
 /// The most bytes that are read.
@@ -37,8 +37,8 @@ pub fn listing(heap: Global, input: &[u8]) -> Result<String, AllocError>
         return refusal_line(heap, 1, 0);
     }
     let (platform, jobs) = first_text(input);
-    match read_platform(platform) {
-        Ok(_) => answers(heap, jobs),
+    match read_calendar(platform) {
+        Ok(_calendar) => answers(heap, jobs),
         Err(fault) => refusal_line(heap, fault.number(), fault.place()),
     }
 }

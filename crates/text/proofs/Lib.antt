@@ -10,3 +10,5 @@ pub mod Following
 pub mod Graphs
 pub mod Drafts
 pub mod Engines
+pub mod Mapping
+pub mod Calendars

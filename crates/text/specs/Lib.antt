@@ -7,3 +7,4 @@ pub mod Slots
 pub mod Take
 pub mod JobText
 pub mod PlatformText
+pub mod CalendarText

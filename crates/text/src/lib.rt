@@ -1,4 +1,5 @@
 //! Reading jobs and platforms from text.
+pub mod calendar_text;
 pub mod fault;
 pub mod job_text;
 pub mod key;

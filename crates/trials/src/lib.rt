@@ -2,6 +2,8 @@
 #[cfg(test)]
 mod answer_cases;
 #[cfg(test)]
+mod engine_tests;
+#[cfg(test)]
 mod graph_cases;
 #[cfg(test)]
 mod job_cases;

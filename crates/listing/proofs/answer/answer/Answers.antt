@@ -5,15 +5,9 @@ use Prim.Native.Nat.{ℕ}
 use Rattle.listing.specs.Answer.{Answers, laid-out}
 use Rattle.listing.specs.Lines.{refusal-line}
 use Rattle.std.specs.Of.String.{string-bytes}
-use Rattle.std.specs.Vec.{made}
-use Rattle.std.specs.declared.result.Result.{Result}
-use Rattle.std.specs.declared.result.Result.the-variants.{Ok, Err}
 use Rattle.task.specs.Flaws.{graph}
+use Rattle.listing.proofs.Making.{made-map}
 use Rattle.listing.proofs.answer.answer.Needs as need
-
-made-map : {X Y : Type 0} (r : Result X Y) (P Q : X → Type 0) → ((x : X) → P x → Q x) → made r P → made r Q
-made-map (Ok x) P Q f p = f x p
-made-map (Err y) P Q f p = tt
 
 pub returns-in-rest : need.returns-in-rest
 returns-in-rest c =

@@ -1,0 +1,1 @@
+//! Strings of marks that repeat without end: the definitions and laws in `specs/`.

@@ -1,0 +1,9 @@
+pub mod Fullest
+pub mod FullestLaws
+pub mod Least
+pub mod Listing
+pub mod ListingLaws
+pub mod Rota
+pub mod RotaLaws
+pub mod Sorting
+pub mod SortingLaws
