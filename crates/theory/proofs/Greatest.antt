@@ -34,14 +34,16 @@ greatest-attained f d (x ∷ []) l = (0, omega arith, omega arith)
 greatest-attained f d (x ∷ (y ∷ ys)) l =
     let (k, in′, e) = greatest-attained f d (y ∷ ys) (omega arith) in
     elim (cases-lt (f x) (greatest f (y ∷ ys))) [
-        inl less ↦ (suc k, omega arith, omega arith)
-      | inr more ↦ (0, omega arith, omega arith) ]
+      | inl less ↦ (suc k, omega arith, omega arith)
+      | inr more ↦ (0, omega arith, omega arith)
+    ]
 
 pub most-at : (f : ℕ → ℕ) (d u : ℕ) → u < d → f u ≤ greatest-below f d
 most-at f zero u l = omega arith
 most-at f (suc d) u l = elim (cases-eq u d) [
-      inl e ↦ omega (arith, ap f e)
-    | inr ne ↦ let rec = most-at f d u (omega arith) in omega arith ]
+  | inl e ↦ omega (arith, ap f e)
+  | inr ne ↦ let rec = most-at f d u (omega arith) in omega arith
+]
 
 pub most-le : (f : ℕ → ℕ) (d m : ℕ) → ((u : ℕ) → u < d → f u ≤ m) → greatest-below f d ≤ m
 most-le f zero m h = omega arith
@@ -55,8 +57,9 @@ most-attained f (suc zero) l = (0, omega arith, omega arith)
 most-attained f (suc (suc d)) l =
     let (u, in′, e) = most-attained f (suc d) (omega arith) in
     elim (cases-lt (f (suc d)) (greatest-below f (suc d))) [
-        inl less ↦ (u, omega arith, omega arith)
-      | inr more ↦ (suc d, omega arith, omega arith) ]
+      | inl less ↦ (u, omega arith, omega arith)
+      | inr more ↦ (suc d, omega arith, omega arith)
+    ]
 
 pub sum-same : (f g : ℕ → ℕ) → ((k : ℕ) → f k ≡ g k) → (m : ℕ) → sum-to f m ≡ sum-to g m
 sum-same f g h zero = refl

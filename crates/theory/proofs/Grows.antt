@@ -13,8 +13,13 @@ use Rattle.theory.proofs.Chains.{sum-chain, chain-mono, chain-le}
 module _ (j : Pattern) (ok : Well-formed j) where
   pub later-grows : (y z : ℕ) → y ≤ z → later j y ≤ later j z
   later-grows y z l =
-      omega (arith, sum-chain j y y, sum-chain j z z, chain-mono j ok y (y - j .period) (z - j .period) (omega arith),
-        chain-le j ok y z (z - j .period) (omega arith))
+      omega (
+        arith,
+        sum-chain j y y,
+        sum-chain j z z,
+        chain-mono j ok y (y - j .period) (z - j .period) (omega arith),
+        chain-le j ok y z (z - j .period) (omega arith),
+      )
 
   at-grows : (m n u : ℕ) → m ≤ n → at-cut j m u ≤ at-cut j n u
   at-grows m n u l = omega (arith, best-mono j ok u u (u + m) (u + n) (omega arith) (omega arith), later-grows (u + m) (u + n) (omega arith))

@@ -24,17 +24,20 @@ share-skip u y i ne = grind (arith, tells)
 skip-items : (f : ℕ → ℕ) (u y : ℕ) (b : List Window) → (f u ≤ greatest (λ i. f (i .offset)) b) ⊎ (inner b u y ≤ inner b (suc u) y)
 skip-items f u y [] = inr (omega arith)
 skip-items f u y (i ∷ b) = elim (cases-eq u (i .offset)) [
-      inl e ↦ inl (omega (arith, ap f e))
-    | inr ne ↦ elim (skip-items f u y b) [
-          inl l ↦ inl (omega arith)
-        | inr l ↦ inr (omega (arith, sumBy-cons (share u y) i b, sumBy-cons (share (suc u) y) i b, share-skip u y i ne)) ] ]
+  | inl e ↦ inl (omega (arith, ap f e))
+  | inr ne ↦ elim (skip-items f u y b) [
+    | inl l ↦ inl (omega arith)
+    | inr l ↦ inr (omega (arith, sumBy-cons (share u y) i b, sumBy-cons (share (suc u) y) i b, share-skip u y i ne))
+  ]
+]
 
 skip-branches : (f : ℕ → ℕ) (u y : ℕ) (bs : List (List Window))
     → (f u ≤ greatest (λ b. greatest (λ i. f (i .offset)) b) bs) ⊎ (greatest (λ b. inner b u y) bs ≤ greatest (λ b. inner b (suc u) y) bs)
 skip-branches f u y [] = inr (omega arith)
 skip-branches f u y (b ∷ bs) = elim (skip-items f u y b) [
-      inl l ↦ inl (omega arith)
-    | inr here ↦ elim (skip-branches f u y bs) [ inl l ↦ inl (omega arith) | inr there ↦ inr (omega arith) ] ]
+  | inl l ↦ inl (omega arith)
+  | inr here ↦ elim (skip-branches f u y bs) [ inl l ↦ inl (omega arith) | inr there ↦ inr (omega arith) ]
+]
 
 -- the greatest over the cuts that count
 abbrev over-cuts : Pattern → (ℕ → ℕ) → ℕ
@@ -46,9 +49,16 @@ module _ (j : Pattern) (ok : Well-formed j) where
   past-all n u e =
       let p = ok .within-period in
       let z : 0 + n ≡ n = omega arith in
-      omega (arith, best-past j ok u (u + n) (omega arith), sum-chain j (u + n) (u + n), sum-chain j n n,
-        chain-mono j ok (u + n) (u + n - j .period) n (omega arith), chain-le j ok (u + n) (suc n) n (omega arith),
-        ap (best j 0) z, ap (later j) z)
+      omega (
+        arith,
+        best-past j ok u (u + n) (omega arith),
+        sum-chain j (u + n) (u + n),
+        sum-chain j n n,
+        chain-mono j ok (u + n) (u + n - j .period) n (omega arith),
+        chain-le j ok (u + n) (suc n) n (omega arith),
+        ap (best j 0) z,
+        ap (later j) z,
+      )
 
   at-skip : (n u : ℕ) → best j u (u + n) ≤ best j (suc u) (u + n) → at-cut j n u ≤ at-cut j n (suc u)
   at-skip n u l =
@@ -57,17 +67,18 @@ module _ (j : Pattern) (ok : Well-formed j) where
   cut-le : (left n u : ℕ) → j .deadline ≡ u + left → at-cut j n u ≤ over-cuts j (at-cut j n)
   cut-le zero n u e = omega (arith, past-all n u (omega arith))
   cut-le (suc left) n u e = elim (skip-branches (at-cut j n) u (u + n) (j .branches)) [
-        inl l ↦ omega arith
-      | inr l ↦ let rec = cut-le left n (suc u) (omega arith) in omega (arith, at-skip n u l) ]
+    | inl l ↦ omega arith
+    | inr l ↦ let rec = cut-le left n (suc u) (omega arith) in omega (arith, at-skip n u l)
+  ]
 
   few-cuts : (n : ℕ) → demand j n ≡ over-cuts j (at-cut j n)
   few-cuts n =
       let up = most-le (at-cut j n) (j .deadline) (over-cuts j (at-cut j n)) (λ u k. cut-le (j .deadline - u) n u (omega arith)) in
       let first = most-at (at-cut j n) (j .deadline) 0 (ok .some-time) in
       let others = greatest-le (All (Fits-in (j .deadline))) (λ b. greatest (λ i. at-cut j n (i .offset)) b) (demand j n)
-            (λ b ws. greatest-le (Fits-in (j .deadline)) (λ i. at-cut j n (i .offset)) (demand j n)
-              (λ i w. most-at (at-cut j n) (j .deadline) (i .offset) (omega (arith, w .opens, w .closes))) b ws)
-            (j .branches) (ok .windows) in
+      (λ b ws. greatest-le (Fits-in (j .deadline)) (λ i. at-cut j n (i .offset)) (demand j n)
+      (λ i w. most-at (at-cut j n) (j .deadline) (i .offset) (omega (arith, w .opens, w .closes))) b ws)
+      (j .branches) (ok .windows) in
       omega arith
 
   -- q whole arrivals, and one that is cut

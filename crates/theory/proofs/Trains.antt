@@ -41,32 +41,34 @@ module _ (j : Pattern) (ok : Well-formed j) where
   bound-at : (n x t : ℕ) (arrivals : List Arrival) → From j t arrivals → demand-in j arrivals x (x + n) ≤ demand j n
   bound-at n x t [] f = omega arith
   bound-at n x t (a ∷ rest) (late, k, f) = elim (cases-lt x (a .time + j .deadline)) [
-        inr past ↦
-          let rec = bound-at n x (a .time + j .period) rest f in
-          omega (arith, sumBy-cons (part j x (x + n)) a rest, part-past x (x + n) a k past)
-      | inl still ↦
-          let u = x - a .time in
-          let y = x + n in
-          let td = ok .some-time in
-          let here = part-le x y u (u + n) a k (omega arith) (omega arith) in
-          let there = chain-bound x y (a .time + j .period) rest f in
-          let sooner = chain-mono j ok (length rest) (y - (a .time + j .period)) (u + n - j .period) (omega arith) in
-          let enough = chain-le j ok (length rest) (u + n) (u + n - j .period) (omega arith) in
-          omega (arith, sumBy-cons (part j x y) a rest, sum-chain j (u + n) (u + n), most-at (at-cut j n) (j .deadline) u (omega arith)) ]
+    | inr past ↦
+        let rec = bound-at n x (a .time + j .period) rest f in
+        omega (arith, sumBy-cons (part j x (x + n)) a rest, part-past x (x + n) a k past)
+    | inl still ↦
+        let u = x - a .time in
+        let y = x + n in
+        let td = ok .some-time in
+        let here = part-le x y u (u + n) a k (omega arith) (omega arith) in
+        let there = chain-bound x y (a .time + j .period) rest f in
+        let sooner = chain-mono j ok (length rest) (y - (a .time + j .period)) (u + n - j .period) (omega arith) in
+        let enough = chain-le j ok (length rest) (u + n) (u + n - j .period) (omega arith) in
+        omega (arith, sumBy-cons (part j x y) a rest, sum-chain j (u + n) (u + n), most-at (at-cut j n) (j .deadline) u (omega arith))
+  ]
 
   -- m arrivals a period apart, from t on, each with its best branch, up to y
   train : (m x y t : ℕ) → x ≤ t → (arrivals : List Arrival) × From j t arrivals × All (λ a. a .time ≤ y) arrivals × (demand-in j arrivals x y ≡ chain j m (y - t))
   train zero x y t l = ([], tt, tt, refl)
   train (suc m) x y t l = elim (cases-lt y t) [
-        inl past ↦ ([], tt, tt, sym (chain-none j ok (suc m) (y - t) (omega arith)))
-      | inr before ↦
-          let (rest, f, ends, e) = train m x y (t + j .period) (omega arith) in
-          let (k, in′, b) = best-attained j ok 0 (y - t) in
-          let a : Arrival = record { time = t; branch = k } in
-          let zero-cut : x - t ≡ 0 = omega arith in
-          let left : y - (t + j .period) ≡ y - t - j .period = omega arith in
-          let here : part j x y a ≡ best j 0 (y - t) = rw zero-cut b in
-          (a ∷ rest, (omega arith, in′, f), (before, ends), omega (arith, sumBy-cons (part j x y) a rest, ap (chain j m) left)) ]
+    | inl past ↦ ([], tt, tt, sym (chain-none j ok (suc m) (y - t) (omega arith)))
+    | inr before ↦
+        let (rest, f, ends, e) = train m x y (t + j .period) (omega arith) in
+        let (k, in′, b) = best-attained j ok 0 (y - t) in
+        let a : Arrival = record { time = t; branch = k } in
+        let zero-cut : x - t ≡ 0 = omega arith in
+        let left : y - (t + j .period) ≡ y - t - j .period = omega arith in
+        let here : part j x y a ≡ best j 0 (y - t) = rw zero-cut b in
+        (a ∷ rest, (omega arith, in′, f), (before, ends), omega (arith, sumBy-cons (part j x y) a rest, ap (chain j m) left))
+  ]
 
 pub demand-is-met : Demand-is-met
 demand-is-met j ok n x after =
@@ -79,9 +81,12 @@ demand-is-met j ok n x after =
     let cut : x - t ≡ u = omega arith in
     let far : x + n - t ≡ u + n = omega arith in
     let left : x + n - (t + j .period) ≡ u + n - j .period = omega arith in
-    let here : part j x (x + n) a ≡ best j u (u + n) = rw (cut, far) b in
-    (a ∷ rest, (omega arith, in′, f), (omega arith, ends),
-      omega (arith, sumBy-cons (part j x (x + n)) a rest, ap (chain j (u + n)) left, sum-chain j (u + n) (u + n)))
+    let here : part j x (x + n) a ≡ best j u (u + n) = rw (cut, far) b in (
+      a ∷ rest,
+      (omega arith, in′, f),
+      (omega arith, ends),
+      omega (arith, sumBy-cons (part j x (x + n)) a rest, ap (chain j (u + n)) left, sum-chain j (u + n) (u + n)),
+    )
 
 pub demand-is-greatest : Demand-is-greatest
 demand-is-greatest j ok n =

@@ -5,11 +5,10 @@
 --   Demand-is-quick       the quick form is the closed form
 --   Demand-grows          more ticks ask no less; All-grow says so of several patterns
 --   Demand-settles        past the deadline, m periods more ask for m whole arrivals more, and m periods ask for at least m
---   Twice-settles-all     where all periods divide h, twice h settles every number of ticks
---   Cycle-repeats         a supply that repeats with its cycle repeats with every multiple of it
+--   Settles-all r         where all periods divide a belt cycle of 14,400 ticks and the supply of two stretches is no more than that of both in a row, r ticks settle every number of them
 use mathlib.Core.Path.{_≡_}
 use mathlib.Core.List.{List}
-use Prim.Native.Nat.{ℕ, _+_, _*_, _≤_, _<_}
+use Prim.Native.Nat.{ℕ, _+_, _*_, _%_, _≤_, _<_}
 use Rattle.std.specs.shelf.Lists.{All}
 use Rattle.theory.specs.Pattern.{Pattern, Well-formed, Arrival, Arrivals, demand-in, Greatest}
 use Rattle.theory.specs.Demand.{demand, whole, demand-of-all, later, later-quick, demand-quick}
@@ -41,15 +40,8 @@ pub record Settles (p : Pattern) (m : ℕ) : Type 0 where
 abbrev pub Demand-settles : Type 0
 Demand-settles = (p : Pattern) → Well-formed p → (m : ℕ) → Settles p m
 
-abbrev pub Divides : ℕ → ℕ → Type 0
-Divides d n = (m : ℕ) × (n ≡ m * d)
-
-abbrev pub Twice-settles-all : Type 0
-Twice-settles-all =
-    (h : ℕ) → 0 < h → (ps : List Pattern) → All Well-formed ps → All (λ p. Divides (p .period) h) ps
-    → (s : ℕ → ℕ) → ((n : ℕ) → s n + s h ≤ s (n + h))
-    → ((n : ℕ) → 0 < n → n ≤ 2 * h → demand-of-all ps n ≤ s n) → (n : ℕ) → demand-of-all ps n ≤ s n
-
-abbrev pub Cycle-repeats : Type 0
-Cycle-repeats =
-    (s : ℕ → ℕ) (cycle quota h : ℕ) → s 0 ≡ 0 → ((n : ℕ) → s (n + cycle) ≡ s n + quota) → Divides cycle h → (n : ℕ) → s (n + h) ≡ s n + s h
+abbrev pub Settles-all : ℕ → Type 0
+Settles-all r =
+    (ps : List Pattern) → All Well-formed ps → All (λ p. 14400 % p .period ≡ 0) ps
+    → (s : ℕ → ℕ) → ((a b : ℕ) → s a + s b ≤ s (a + b))
+    → ((n : ℕ) → 0 < n → n ≤ r → demand-of-all ps n ≤ s n) → (n : ℕ) → demand-of-all ps n ≤ s n

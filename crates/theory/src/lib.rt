@@ -1,31 +1,18 @@
-//! The mathematics of demand: each function stands for the theorems that its contract names.
-ghost use Rattle.theory.specs.Theorems.{All-grow, Cycle-repeats, Demand-grows, Demand-is-greatest, Demand-is-met, Demand-is-quick, Demand-settles, Greatest-is-one, Twice-settles-all};
+//! The mathematics of demand: how much work of a placed job can fall due on an engine within n ticks.
+ghost use mathlib.Core.Path.{_≡_};
+ghost use Rattle.theory.specs.Theorems.{All-grow, Demand-grows, Demand-is-greatest, Demand-is-met, Demand-is-quick, Demand-settles, Greatest-is-one, Settles-all};
 
-/// The demand is the greatest total, and there is one greatest total.
-pub fn demand_is_greatest()
+/// Up to how many ticks demand and supply have to be compared: twice a belt cycle settles every number of ticks.
+pub fn farthest() -> u32
+    ensures value { λ r. ⌜ r ≡ 28800 ⌝ }
+    ensures settles { λ r. ⌜ Settles-all r ⌝ }
     ensures greatest { λ _. ⌜ Demand-is-greatest ⌝ }
     ensures one { λ _. ⌜ Greatest-is-one ⌝ }
     ensures met { λ _. ⌜ Demand-is-met ⌝ }
+    ensures quick { λ _. ⌜ Demand-is-quick ⌝ }
+    ensures grows { λ _. ⌜ Demand-grows ⌝ }
+    ensures together { λ _. ⌜ All-grow ⌝ }
+    ensures repeats { λ _. ⌜ Demand-settles ⌝ }
 {
-}
-
-/// The demand in few steps.
-pub fn demand_is_quick()
-    ensures { λ _. ⌜ Demand-is-quick ⌝ }
-{
-}
-
-/// More ticks ask no less.
-pub fn demand_grows()
-    ensures one { λ _. ⌜ Demand-grows ⌝ }
-    ensures all { λ _. ⌜ All-grow ⌝ }
-{
-}
-
-/// Twice a common multiple of the periods settles every number of ticks.
-pub fn demand_settles()
-    ensures one { λ _. ⌜ Demand-settles ⌝ }
-    ensures all { λ _. ⌜ Twice-settles-all ⌝ }
-    ensures supply { λ _. ⌜ Cycle-repeats ⌝ }
-{
+    28_800
 }
