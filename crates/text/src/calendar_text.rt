@@ -10,12 +10,12 @@ ghost use Rattle.std.specs.shelf.Lists.{All};
 ghost use Rattle.text.specs.CalendarText.{Calendar-of, Calendar-reads, marks-in};
 ghost use Rattle.text.specs.PlatformText.{Refused};
 use crate::fault::Fault;
-use crate::platform_text::ENGINES;
 use crate::platform_text::Engine;
-use crate::platform_text::MARKS;
 use crate::platform_text::read_platform;
 use engine::calendar::Calendar;
+use engine::marks::MARKS;
 use engine::marks::Marks;
+use engine::roster::ENGINES;
 use engine::tags::Tags;
 
 fn tags_of(engines: &[Engine]) -> [u32; ENGINES]

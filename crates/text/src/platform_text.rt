@@ -11,12 +11,8 @@ ghost use Rattle.text.specs.Take.{Refuses, Takes};
 use crate::fault::Fault;
 use crate::key::Key;
 use crate::lines::Lines;
-
-/// The most engines that a platform has.
-pub const ENGINES: usize = 16;
-
-/// The most marks that an engine has.
-pub const MARKS: usize = 240;
+use engine::marks::MARKS;
+use engine::roster::ENGINES;
 
 /// An engine's tag and its marks, the first `length` of the table: true for a served tick.
 #[derive(Clone, Copy)]
