@@ -41,69 +41,69 @@ skip-branches f u y (b ∷ bs) = elim (skip-items f u y b) [
 
 -- the greatest over the cuts that count
 abbrev over-cuts : Pattern → (ℕ → ℕ) → ℕ
-over-cuts j f = max (f 0) (greatest (λ b. greatest (λ i. f (i .offset)) b) (j .branches))
+over-cuts pat f = max (f 0) (greatest (λ b. greatest (λ i. f (i .offset)) b) (pat .branches))
 
-module _ (j : Pattern) (ok : Well-formed j) where
+module _ (pat : Pattern) (ok : Well-formed pat) where
   -- past the last offset nothing of the first arrival counts, and the next may as well come sooner
-  past-all : (n u : ℕ) → u ≡ j .deadline → at-cut j n u ≤ at-cut j n 0
+  past-all : (n u : ℕ) → u ≡ pat .deadline → at-cut pat n u ≤ at-cut pat n 0
   past-all n u e =
       let p = ok .within-period in
       let z : 0 + n ≡ n = omega arith in
       omega (
         arith,
-        best-past j ok u (u + n) (omega arith),
-        sum-chain j (u + n) (u + n),
-        sum-chain j n n,
-        chain-mono j ok (u + n) (u + n - j .period) n (omega arith),
-        chain-le j ok (u + n) (suc n) n (omega arith),
-        ap (best j 0) z,
-        ap (later j) z,
+        best-past pat ok u (u + n) (omega arith),
+        sum-chain pat (u + n) (u + n),
+        sum-chain pat n n,
+        chain-mono pat ok (u + n) (u + n - pat .period) n (omega arith),
+        chain-le pat ok (u + n) (suc n) n (omega arith),
+        ap (best pat 0) z,
+        ap (later pat) z,
       )
 
-  at-skip : (n u : ℕ) → best j u (u + n) ≤ best j (suc u) (u + n) → at-cut j n u ≤ at-cut j n (suc u)
+  at-skip : (n u : ℕ) → best pat u (u + n) ≤ best pat (suc u) (u + n) → at-cut pat n u ≤ at-cut pat n (suc u)
   at-skip n u l =
-      omega (arith, best-mono j ok (suc u) (suc u) (u + n) (suc u + n) (omega arith) (omega arith), later-grows j ok (u + n) (suc u + n) (omega arith))
+      omega (arith, best-mono pat ok (suc u) (suc u) (u + n) (suc u + n) (omega arith) (omega arith), later-grows pat ok (u + n) (suc u + n) (omega arith))
 
-  cut-le : (left n u : ℕ) → j .deadline ≡ u + left → at-cut j n u ≤ over-cuts j (at-cut j n)
+  cut-le : (left n u : ℕ) → pat .deadline ≡ u + left → at-cut pat n u ≤ over-cuts pat (at-cut pat n)
   cut-le zero n u e = omega (arith, past-all n u (omega arith))
-  cut-le (suc left) n u e = elim (skip-branches (at-cut j n) u (u + n) (j .branches)) [
+  cut-le (suc left) n u e = elim (skip-branches (at-cut pat n) u (u + n) (pat .branches)) [
     | inl l ↦ omega arith
     | inr l ↦ let rec = cut-le left n (suc u) (omega arith) in omega (arith, at-skip n u l)
   ]
 
-  few-cuts : (n : ℕ) → demand j n ≡ over-cuts j (at-cut j n)
+  few-cuts : (n : ℕ) → demand pat n ≡ over-cuts pat (at-cut pat n)
   few-cuts n =
-      let up = most-le (at-cut j n) (j .deadline) (over-cuts j (at-cut j n)) (λ u k. cut-le (j .deadline - u) n u (omega arith)) in
-      let first = most-at (at-cut j n) (j .deadline) 0 (ok .some-time) in
-      let others = greatest-le (All (Fits-in (j .deadline))) (λ b. greatest (λ i. at-cut j n (i .offset)) b) (demand j n)
-      (λ b ws. greatest-le (Fits-in (j .deadline)) (λ i. at-cut j n (i .offset)) (demand j n)
-      (λ i w. most-at (at-cut j n) (j .deadline) (i .offset) (omega (arith, w .opens, w .closes))) b ws)
-      (j .branches) (ok .windows) in
+      let up = most-le (at-cut pat n) (pat .deadline) (over-cuts pat (at-cut pat n)) (λ u k. cut-le (pat .deadline - u) n u (omega arith)) in
+      let first = most-at (at-cut pat n) (pat .deadline) 0 (ok .some-time) in
+      let others = greatest-le (All (Fits-in (pat .deadline))) (λ b. greatest (λ i. at-cut pat n (i .offset)) b) (demand pat n)
+      (λ b ws. greatest-le (Fits-in (pat .deadline)) (λ i. at-cut pat n (i .offset)) (demand pat n)
+      (λ i w. most-at (at-cut pat n) (pat .deadline) (i .offset) (omega (arith, w .opens, w .closes))) b ws)
+      (pat .branches) (ok .windows) in
       omega arith
 
   -- q whole arrivals, and one that is cut
-  chain-wholes : (q m y : ℕ) → y - j .period ≤ m → q * j .period ≤ y - j .deadline → y - j .deadline < q * j .period + j .period
-      → chain j m (y - j .period) ≡ q * whole j + best j 0 (y - (q + 1) * j .period)
-  chain-wholes zero zero y a b c = omega (arith, best-short j ok 0 (y - (0 + 1) * j .period) (omega arith))
+  chain-wholes : (q m y : ℕ) → y - pat .period ≤ m → q * pat .period ≤ y - pat .deadline → y - pat .deadline < q * pat .period + pat .period
+      → chain pat m (y - pat .period) ≡ q * whole pat + best pat 0 (y - (q + 1) * pat .period)
+  chain-wholes zero zero y a b c = omega (arith, best-short pat ok 0 (y - (0 + 1) * pat .period) (omega arith))
   chain-wholes zero (suc m) y a b c =
       let p = ok .within-period in
-      let e : y - (0 + 1) * j .period ≡ y - j .period = omega arith in
-      omega (arith, ap (best j 0) e, chain-none j ok m (y - j .period - j .period) (omega arith))
+      let e : y - (0 + 1) * pat .period ≡ y - pat .period = omega arith in
+      omega (arith, ap (best pat 0) e, chain-none pat ok m (y - pat .period - pat .period) (omega arith))
   chain-wholes (suc q) zero y a b c = let t = ok .some-time in let p = ok .within-period in absurd (omega arith)
   chain-wholes (suc q) (suc m) y a b c =
       let t = ok .some-time in
       let p = ok .within-period in
-      let rec = chain-wholes q m (y - j .period) (omega arith) (omega arith) (omega arith) in
-      let e : y - (suc q + 1) * j .period ≡ y - j .period - (q + 1) * j .period = omega arith in
-      omega (arith, ap (best j 0) e, best-full j ok 0 (y - j .period) (j .deadline) (omega arith) (omega arith))
+      let rec = chain-wholes q m (y - pat .period) (omega arith) (omega arith) (omega arith) in
+      let e : y - (suc q + 1) * pat .period ≡ y - pat .period - (q + 1) * pat .period = omega arith in
+      omega (arith, ap (best pat 0) e, best-full pat ok 0 (y - pat .period) (pat .deadline) (omega arith) (omega arith))
 
-  later-is-quick : (y : ℕ) → later j y ≡ later-quick j y
+  later-is-quick : (y : ℕ) → later pat y ≡ later-quick pat y
   later-is-quick y =
-      let t : 0 < j .period = omega (arith, ok .some-time, ok .within-period) in
-      sum-chain j y y ∙ chain-wholes (wholes j y) y y (omega arith) (div-mul-le-self (y - j .deadline) (j .period)) (lt-div-mul-add t)
+      let t : 0 < pat .period = omega (arith, ok .some-time, ok .within-period) in
+      sum-chain pat y y ∙ chain-wholes (wholes pat y) y y (omega arith) (div-mul-le-self (y - pat .deadline) (pat .period)) (lt-div-mul-add t)
 
-  at-is-quick : (n : ℕ) → at-cut j n ≡ at-cut-quick j n
-  at-is-quick n = fun-ext (λ u. ap (λ v. best j u (u + n) + v) (later-is-quick (u + n)))
+  at-is-quick : (n : ℕ) → at-cut pat n ≡ at-cut-quick pat n
+  at-is-quick n = fun-ext (λ u. ap (λ v. best pat u (u + n) + v) (later-is-quick (u + n)))
 
 pub demand-is-quick : Demand-is-quick
-demand-is-quick j ok = (later-is-quick j ok, λ n. few-cuts j ok n ∙ ap (over-cuts j) (at-is-quick j ok n))
+demand-is-quick pat ok = (later-is-quick pat ok, λ n. few-cuts pat ok n ∙ ap (over-cuts pat) (at-is-quick pat ok n))

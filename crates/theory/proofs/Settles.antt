@@ -15,57 +15,57 @@ use Rattle.theory.proofs.Greatest.{most-at, most-le, most-shift}
 use Rattle.theory.proofs.Windows.{best-full, best-short}
 use Rattle.theory.proofs.Chains.{chain, sum-chain, chain-none, chain-le, chain-same}
 
-module _ (j : Pattern) (ok : Well-formed j) where
-  later-more : (y : ℕ) → j .deadline ≤ y → later j (y + j .period) ≡ later j y + whole j
+module _ (pat : Pattern) (ok : Well-formed pat) where
+  later-more : (y : ℕ) → pat .deadline ≤ y → later pat (y + pat .period) ≡ later pat y + whole pat
   later-more y l =
-      let less : y + j .period - j .period ≡ y = omega arith in
+      let less : y + pat .period - pat .period ≡ y = omega arith in
       omega (
         arith,
-        sum-chain j (y + j .period) (y + j .period),
-        ap (chain j (y + j .period)) less,
-        chain-same j ok (y + j .period) (suc y) y (omega arith) (omega arith),
-        sum-chain j y y,
-        best-full j ok 0 y (j .deadline) l (omega arith),
+        sum-chain pat (y + pat .period) (y + pat .period),
+        ap (chain pat (y + pat .period)) less,
+        chain-same pat ok (y + pat .period) (suc y) y (omega arith) (omega arith),
+        sum-chain pat y y,
+        best-full pat ok 0 y (pat .deadline) l (omega arith),
       )
 
-  at-more : (n u : ℕ) → j .deadline ≤ n → at-cut j (n + j .period) u ≡ at-cut j n u + whole j
+  at-more : (n u : ℕ) → pat .deadline ≤ n → at-cut pat (n + pat .period) u ≡ at-cut pat n u + whole pat
   at-more n u l =
-      let e : u + (n + j .period) ≡ u + n + j .period = omega arith in
-      omega (arith, later-more (u + n) (omega arith), ap (later j) e, best-full j ok u (u + (n + j .period)) (u + n) (omega arith) (omega arith))
+      let e : u + (n + pat .period) ≡ u + n + pat .period = omega arith in
+      omega (arith, later-more (u + n) (omega arith), ap (later pat) e, best-full pat ok u (u + (n + pat .period)) (u + n) (omega arith) (omega arith))
 
-  demand-more : (n : ℕ) → j .deadline ≤ n → demand j (n + j .period) ≡ demand j n + whole j
-  demand-more n l = most-shift (at-cut j n) (at-cut j (n + j .period)) (whole j) (j .deadline) (ok .some-time) (λ u _. at-more n u l)
+  demand-more : (n : ℕ) → pat .deadline ≤ n → demand pat (n + pat .period) ≡ demand pat n + whole pat
+  demand-more n l = most-shift (at-cut pat n) (at-cut pat (n + pat .period)) (whole pat) (pat .deadline) (ok .some-time) (λ u _. at-more n u l)
 
-  more : (m n : ℕ) → j .deadline ≤ n → demand j (n + m * j .period) ≡ demand j n + m * whole j
-  more zero n l = let e : n + 0 * j .period ≡ n = omega arith in omega (arith, ap (demand j) e)
+  more : (m n : ℕ) → pat .deadline ≤ n → demand pat (n + m * pat .period) ≡ demand pat n + m * whole pat
+  more zero n l = let e : n + 0 * pat .period ≡ n = omega arith in omega (arith, ap (demand pat) e)
   more (suc m) n l =
-      let e : n + suc m * j .period ≡ n + m * j .period + j .period = omega arith in
+      let e : n + suc m * pat .period ≡ n + m * pat .period + pat .period = omega arith in
       let rec = more m n l in
-      omega (arith, ap (demand j) e, demand-more (n + m * j .period) (omega arith))
+      omega (arith, ap (demand pat) e, demand-more (n + m * pat .period) (omega arith))
 
-  chain-whole : (m : ℕ) → m * whole j ≤ chain j m (m * j .period)
+  chain-whole : (m : ℕ) → m * whole pat ≤ chain pat m (m * pat .period)
   chain-whole zero = omega arith
   chain-whole (suc m) =
       let rec = chain-whole m in
       let p = ok .within-period in
-      let e : suc m * j .period - j .period ≡ m * j .period = omega arith in
-      omega (arith, ap (chain j m) e, best-full j ok 0 (suc m * j .period) (j .deadline) (omega arith) (omega arith))
+      let e : suc m * pat .period - pat .period ≡ m * pat .period = omega arith in
+      omega (arith, ap (chain pat m) e, best-full pat ok 0 (suc m * pat .period) (pat .deadline) (omega arith) (omega arith))
 
-  least : (m : ℕ) → m * whole j ≤ demand j (m * j .period)
+  least : (m : ℕ) → m * whole pat ≤ demand pat (m * pat .period)
   least m =
-      let n = m * j .period in
+      let n = m * pat .period in
       omega (
         arith,
         chain-whole m,
-        chain-le j ok m (suc n) n (omega arith),
-        sum-chain j n n,
-        most-at (at-cut j n) (j .deadline) 0 (ok .some-time),
-        ap (best j 0) (let e : 0 + n ≡ n = omega arith in e),
-        ap (later j) (let e : 0 + n ≡ n = omega arith in e),
+        chain-le pat ok m (suc n) n (omega arith),
+        sum-chain pat n n,
+        most-at (at-cut pat n) (pat .deadline) 0 (ok .some-time),
+        ap (best pat 0) (let e : 0 + n ≡ n = omega arith in e),
+        ap (later pat) (let e : 0 + n ≡ n = omega arith in e),
       )
 
 pub demand-settles : Demand-settles
-demand-settles j ok m = record { later-on = more j ok m; at-least = least j ok m }
+demand-settles pat ok m = record { later-on = more pat ok m; at-least = least pat ok m }
 
 -- h is so many times d
 abbrev Divides : ℕ → ℕ → Type 0
@@ -76,46 +76,46 @@ multiple-le zero t h e l = omega arith
 multiple-le (suc m) t h e l = omega arith
 
 -- h ticks more ask for no more than h ticks do alone
-all-more : (h : ℕ) → 0 < h → (js : List Pattern) → All Well-formed js → All (λ j. Divides (j .period) h) js → (n : ℕ) → h ≤ n
-    → demand-of-all js (n + h) ≤ demand-of-all js n + demand-of-all js h
+all-more : (h : ℕ) → 0 < h → (pats : List Pattern) → All Well-formed pats → All (λ pat. Divides (pat .period) h) pats → (n : ℕ) → h ≤ n
+    → demand-of-all pats (n + h) ≤ demand-of-all pats n + demand-of-all pats h
 all-more h p [] ok d n l = omega arith
-all-more h p (j ∷ js) (o, ok) ((m, e), d) n l =
-    let rec = all-more h p js ok d n l in
-    let s = demand-settles j o m in
-    let more = s .later-on n (omega (arith, o .within-period, multiple-le m (j .period) h e p)) in
+all-more h p (pat ∷ pats) (o, ok) ((m, e), d) n l =
+    let rec = all-more h p pats ok d n l in
+    let s = demand-settles pat o m in
+    let more = s .later-on n (omega (arith, o .within-period, multiple-le m (pat .period) h e p)) in
     omega (
       arith,
       s .at-least,
-      ap (demand j) e,
-      ap (λ k. demand j (n + k)) e,
-      sumBy-cons (λ j. demand j (n + h)) j js,
-      sumBy-cons (λ j. demand j n) j js,
-      sumBy-cons (λ j. demand j h) j js,
+      ap (demand pat) e,
+      ap (λ k. demand pat (n + k)) e,
+      sumBy-cons (λ pat. demand pat (n + h)) pat pats,
+      sumBy-cons (λ pat. demand pat n) pat pats,
+      sumBy-cons (λ pat. demand pat h) pat pats,
     )
 
 -- no ticks ask nothing
-none-asks-nothing : (js : List Pattern) → All Well-formed js → demand-of-all js 0 ≡ 0
+none-asks-nothing : (pats : List Pattern) → All Well-formed pats → demand-of-all pats 0 ≡ 0
 none-asks-nothing [] ok = refl
-none-asks-nothing (j ∷ js) (o, ok) =
-    let rec = none-asks-nothing js ok in
-    let none = most-le (at-cut j 0) (j .deadline) 0 (λ u l. omega (
+none-asks-nothing (pat ∷ pats) (o, ok) =
+    let rec = none-asks-nothing pats ok in
+    let none = most-le (at-cut pat 0) (pat .deadline) 0 (λ u l. omega (
       arith,
       o .within-period,
-      best-short j o u (u + 0) (omega arith),
-      sum-chain j (u + 0) (u + 0),
-      chain-none j o (u + 0) (u + 0 - j .period) (omega (arith, o .within-period)),
+      best-short pat o u (u + 0) (omega arith),
+      sum-chain pat (u + 0) (u + 0),
+      chain-none pat o (u + 0) (u + 0 - pat .period) (omega (arith, o .within-period)),
     )) in
-    omega (arith, sumBy-cons (λ i. demand i 0) j js)
+    omega (arith, sumBy-cons (λ i. demand i 0) pat pats)
 
 -- twice any common multiple of the periods settles every number of ticks
 twice-settles-all :
     (h : ℕ) → 0 < h → (ps : List Pattern) → All Well-formed ps → All (λ p. Divides (p .period) h) ps
     → (s : ℕ → ℕ) → ((n : ℕ) → s n + s h ≤ s (n + h))
     → ((n : ℕ) → 0 < n → n ≤ 2 * h → demand-of-all ps n ≤ s n) → (n : ℕ) → demand-of-all ps n ≤ s n
-twice-settles-all h p js ok d s joins first n = go n n (omega arith)
+twice-settles-all h p pats ok d s joins first n = go n n (omega arith)
   where
-    go : (fuel n : ℕ) → n ≤ fuel → demand-of-all js n ≤ s n
-    go fuel zero l = omega (arith, none-asks-nothing js ok)
+    go : (fuel n : ℕ) → n ≤ fuel → demand-of-all pats n ≤ s n
+    go fuel zero l = omega (arith, none-asks-nothing pats ok)
     go zero (suc n) l = absurd (omega arith)
     go (suc fuel) (suc i) l = let n = suc i in elim (cases-lt (2 * h) n) [
       | inr early ↦ first n (omega arith) early
@@ -123,8 +123,8 @@ twice-settles-all h p js ok d s joins first n = go n n (omega arith)
           let k = n - h in
           let e : k + h ≡ n = omega arith in
           let rec = go fuel k (omega arith) in
-          let step = all-more h p js ok d k (omega arith) in
-          omega (arith, joins k, ap s e, ap (demand-of-all js) e, first h p (omega arith))
+          let step = all-more h p pats ok d k (omega arith) in
+          omega (arith, joins k, ap s e, ap (demand-of-all pats) e, first h p (omega arith))
     ]
 
 -- a period that divides a belt cycle fits a whole number of times

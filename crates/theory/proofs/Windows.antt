@@ -1,4 +1,4 @@
--- What the items of a branch, and the best branch, ask between two times after an arrival.
+-- What the windows of a branch, and the best branch, ask between two times after an arrival.
 use mathlib.Core.Path.{_≡_, refl}
 use mathlib.Core.List.{List, [], _∷_}
 use Prim.Native.Nat.{ℕ, _≤_, _<_}
@@ -48,27 +48,27 @@ inner-past d u y (i ∷ b) w a =
     let rec = inner-past d u y b (w .1) a in
     omega (arith, sumBy-cons (share u y) i b, share-past d u y i (w .0) a)
 
-module _ (j : Pattern) (ok : Well-formed j) where
-  pub best-mono : (u v y z : ℕ) → u ≤ v → y ≤ z → best j v y ≤ best j u z
+module _ (pat : Pattern) (ok : Well-formed pat) where
+  pub best-mono : (u v y z : ℕ) → u ≤ v → y ≤ z → best pat v y ≤ best pat u z
   best-mono u v y z p q =
-      greatest-mono (All (Fits-in (j .deadline))) (λ b. inner b v y) (λ b. inner b u z) (λ b w. inner-mono u v y z b p q) (j .branches) (ok .windows)
+      greatest-mono (All (Fits-in (pat .deadline))) (λ b. inner b v y) (λ b. inner b u z) (λ b w. inner-mono u v y z b p q) (pat .branches) (ok .windows)
 
-  pub best-full : (u y z : ℕ) → j .deadline ≤ y → j .deadline ≤ z → best j u y ≡ best j u z
+  pub best-full : (u y z : ℕ) → pat .deadline ≤ y → pat .deadline ≤ z → best pat u y ≡ best pat u z
   best-full u y z p q =
-      let a = greatest-mono (All (Fits-in (j .deadline))) (λ b. inner b u y) (λ b. inner b u z) (λ b w. inner-full (j .deadline) u z y b w q) (j .branches) (ok .windows) in
-      let b = greatest-mono (All (Fits-in (j .deadline))) (λ b. inner b u z) (λ b. inner b u y) (λ b w. inner-full (j .deadline) u y z b w p) (j .branches) (ok .windows) in
+      let a = greatest-mono (All (Fits-in (pat .deadline))) (λ b. inner b u y) (λ b. inner b u z) (λ b w. inner-full (pat .deadline) u z y b w q) (pat .branches) (ok .windows) in
+      let b = greatest-mono (All (Fits-in (pat .deadline))) (λ b. inner b u z) (λ b. inner b u y) (λ b w. inner-full (pat .deadline) u y z b w p) (pat .branches) (ok .windows) in
       omega arith
 
-  pub best-short : (u y : ℕ) → y ≤ u → best j u y ≡ 0
+  pub best-short : (u y : ℕ) → y ≤ u → best pat u y ≡ 0
   best-short u y p =
-      greatest-none (All (Fits-in (j .deadline))) (λ b. inner b u y) (λ b w. inner-short (j .deadline) u y b w p) (j .branches) (ok .windows)
+      greatest-none (All (Fits-in (pat .deadline))) (λ b. inner b u y) (λ b w. inner-short (pat .deadline) u y b w p) (pat .branches) (ok .windows)
 
-  pub best-past : (u y : ℕ) → j .deadline ≤ u → best j u y ≡ 0
+  pub best-past : (u y : ℕ) → pat .deadline ≤ u → best pat u y ≡ 0
   best-past u y p =
-      greatest-none (All (Fits-in (j .deadline))) (λ b. inner b u y) (λ b w. inner-past (j .deadline) u y b w p) (j .branches) (ok .windows)
+      greatest-none (All (Fits-in (pat .deadline))) (λ b. inner b u y) (λ b w. inner-past (pat .deadline) u y b w p) (pat .branches) (ok .windows)
 
-  pub best-at : (u y k : ℕ) → k < length (j .branches) → inner (getD (j .branches) k []) u y ≤ best j u y
-  best-at u y k l = greatest-at (λ b. inner b u y) [] (j .branches) k l
+  pub best-at : (u y k : ℕ) → k < length (pat .branches) → inner (getD (pat .branches) k []) u y ≤ best pat u y
+  best-at u y k l = greatest-at (λ b. inner b u y) [] (pat .branches) k l
 
-  pub best-attained : (u y : ℕ) → (k : ℕ) × (k < length (j .branches)) × (inner (getD (j .branches) k []) u y ≡ best j u y)
-  best-attained u y = greatest-attained (λ b. inner b u y) [] (j .branches) (ok .some-branch)
+  pub best-attained : (u y : ℕ) → (k : ℕ) × (k < length (pat .branches)) × (inner (getD (pat .branches) k []) u y ≡ best pat u y)
+  best-attained u y = greatest-attained (λ b. inner b u y) [] (pat .branches) (ok .some-branch)
