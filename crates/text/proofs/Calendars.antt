@@ -51,8 +51,8 @@ unfolding digits
 long-decimal m big = let all = long-spelled 9 64 m [] big (omega arith) in omega arith
 
 -- what is written with at most nine digits is that number
-numeral-same : (m n : ℕ) → Numeral n (decimal m) → m ≡ n
-numeral-same m n is = elim (cases-lt m (10 ^ 9)) [
+pub decimal-numeral : (m n : ℕ) → Numeral n (decimal m) → m ≡ n
+decimal-numeral m n is = elim (cases-lt m (10 ^ 9)) [
   | inl below ↦ same-from-decimal m n (omega arith) (omega (arith, is .small)) (is .written)
   | inr past ↦ absurd (omega (arith, long-decimal m past, ap length (is .written), length-decimal-le 9 n (omega arith) (is .small) (omega (arith, is .small))))
 ]
@@ -67,7 +67,7 @@ marks-same (true ∷ ms) (false ∷ ns) e = absurd (let z : _≡_ {A = ℕ} 49 4
 marks-same (false ∷ ms) (true ∷ ns) e = absurd (let z : _≡_ {A = ℕ} 48 49 = ap (λ l. getD l 0 0) e in omega arith)
 
 tag-small : (tag : ℕ) → In-range (slot Tag 0 (decimal tag)) → tag ≤ 7
-tag-small tag r = omega (arith, numeral-same tag (r .0) (r .1), leb-true (r .0) 7 (r .2))
+tag-small tag r = omega (arith, decimal-numeral tag (r .0) (r .1), leb-true (r .0) 7 (r .2))
 
 marks-fit : (e : Engine) → Plain e → In-range (slot Marks′ 0 (mark-bytes (take (e .length) (e .marks)))) → Fit (marks-in e)
 marks-fit e plain r =
@@ -92,7 +92,7 @@ engines-fit (e ∷ es) plain r =
     ((tag-small (e .tag) (r .0), rest .0), (marks-fit e (plain .0) (r .1 .0), rest .1))
 
 count-some : (n : ℕ) → In-range (slot Engines 0 (decimal n)) → 1 ≤ n
-count-some n r = omega (arith, numeral-same n (r .0) (r .1), leb-true 1 (r .0) (and-parts (leb 1 (r .0)) (leb (r .0) 16) (r .2) .0))
+count-some n r = omega (arith, decimal-numeral n (r .0) (r .1), leb-true 1 (r .0) (and-parts (leb 1 (r .0)) (leb (r .0) 16) (r .2) .0))
 
 pub plain-all : (p : Platform) → Described p → All Plain (take (p .count) (p .engines))
 plain-all p d =

@@ -19,6 +19,7 @@ use Rattle.text.specs.declared.job_text.Header.{Header}
 use Rattle.text.specs.JobText.{Written, Forked, Nodes-fit, Reads, Refused, header, header-slots, nodes-slots, slots, written}
 use Rattle.text.specs.Slots.{Halts, Sized, Stops, Took, Whole, text-of}
 use Rattle.text.proofs.Following.{took-append, stops-after, stops-more}
+use Rattle.text.proofs.Single.{line-unread, forks-unread}
 
 -- a header and nodes
 abbrev pub draft : Header → List Node → Written
@@ -50,9 +51,9 @@ all-whole h ns bs cs c ds d e a b none =
 
 pub halts-refused : (bs : List ℕ) (f : Fault) → Sized bs → (w : Written) × Halts (slots w) bs f → Refused bs f
 halts-refused bs Size s x = elim (x .1) [ inl stop ↦ absurd (stop .fails) | inr over ↦ let z : _≡_ {A = ℕ} 0 1 = cc (over .fault) in absurd (let y : ⊥ = omega arith in y) ]
-halts-refused bs (Line n) s x = record { sized = s; says = x .0; halts = x .1 }
-halts-refused bs (Form n) s x = record { sized = s; says = x .0; halts = x .1 }
-halts-refused bs (Range n) s x = record { sized = s; says = x .0; halts = x .1 }
+halts-refused bs (Line n) s x = record { sized = s; says = x .0; halts = x .1; unread = line-unread bs (Line n) (x .0) (x .1) }
+halts-refused bs (Form n) s x = record { sized = s; says = x .0; halts = x .1; unread = line-unread bs (Form n) (x .0) (x .1) }
+halts-refused bs (Range n) s x = record { sized = s; says = x .0; halts = x .1; unread = line-unread bs (Range n) (x .0) (x .1) }
 halts-refused bs (Fork v) s x = elim (x .1) [ inl stop ↦ absurd (stop .fails) | inr over ↦ let z : _≡_ {A = ℕ} 0 1 = cc (over .fault) in absurd (let y : ⊥ = omega arith in y) ]
 halts-refused bs Forks s x = elim (x .1) [ inl stop ↦ absurd (stop .fails) | inr over ↦ let z : _≡_ {A = ℕ} 0 1 = cc (over .fault) in absurd (let y : ⊥ = omega arith in y) ]
 
@@ -61,8 +62,8 @@ forks-refused bs Size w s whole x = absurd x
 forks-refused bs (Line n) w s whole x = absurd x
 forks-refused bs (Form n) w s whole x = absurd x
 forks-refused bs (Range n) w s whole x = absurd x
-forks-refused bs (Fork v) w s whole x = record { sized = s; says = w; whole = whole; forked = x }
-forks-refused bs Forks w s whole x = record { sized = s; says = w; whole = whole; forked = x }
+forks-refused bs (Fork v) w s whole x = record { sized = s; says = w; whole = whole; forked = x; unread = forks-unread bs (Fork v) w whole x }
+forks-refused bs Forks w s whole x = record { sized = s; says = w; whole = whole; forked = x; unread = forks-unread bs Forks w whole x }
 
 -- what was read lies in its ranges
 upward : (ns : List Node) → Nodes-fit ns → Upward ns

@@ -18,6 +18,7 @@ use Rattle.text.specs.PlatformText.{Plain, Refused, Said, at, blank, engine-sl
 use Rattle.text.specs.Slots.{slot, Fails, Halts, Sized, Stops, Took, Whole, number-fits, text-of}
 use Rattle.text.proofs.Following.{took-append, took-next, stops-after, stops-here, stops-more, stops-next}
 use Rattle.text.proofs.Marking.{ones}
+use Rattle.text.proofs.Single.{platform-unread}
 
 pub ones-more : (marks : List ℕ) (us : List Bool) (i : ℕ) → i < length marks → i < length us → take i us ≡ ones (take i marks) → take (i + 1) (set us i (eqb (getD marks i 0) 49)) ≡ ones (take (i + 1) marks)
 ones-more marks us i l h was =
@@ -79,9 +80,9 @@ engines-whole count ss bs cs c ds d e a b none =
 
 pub halts-refused : (bs : List ℕ) (f : Fault) → Sized bs → (ss : List Said) × Halts (slots ss) bs f → Refused bs f
 halts-refused bs Size s x = elim (x .1) [ inl stop ↦ absurd (stop .fails) | inr over ↦ let z : _≡_ {A = ℕ} 0 1 = cc (over .fault) in absurd (let y : ⊥ = omega arith in y) ]
-halts-refused bs (Line n) s x = record { sized = s; says = x .0; halts = x .1 }
-halts-refused bs (Form n) s x = record { sized = s; says = x .0; halts = x .1 }
-halts-refused bs (Range n) s x = record { sized = s; says = x .0; halts = x .1 }
+halts-refused bs (Line n) s x = record { sized = s; says = x .0; halts = x .1; unread = platform-unread bs (Line n) (x .0) (x .1) }
+halts-refused bs (Form n) s x = record { sized = s; says = x .0; halts = x .1; unread = platform-unread bs (Form n) (x .0) (x .1) }
+halts-refused bs (Range n) s x = record { sized = s; says = x .0; halts = x .1; unread = platform-unread bs (Range n) (x .0) (x .1) }
 halts-refused bs (Fork v) s x = elim (x .1) [ inl stop ↦ absurd (stop .fails) | inr over ↦ let z : _≡_ {A = ℕ} 0 1 = cc (over .fault) in absurd (let y : ⊥ = omega arith in y) ]
 halts-refused bs Forks s x = elim (x .1) [ inl stop ↦ absurd (stop .fails) | inr over ↦ let z : _≡_ {A = ℕ} 0 1 = cc (over .fault) in absurd (let y : ⊥ = omega arith in y) ]
 

@@ -12,3 +12,6 @@ pub mod Drafts
 pub mod Engines
 pub mod Mapping
 pub mod Calendars
+pub mod Walking
+pub mod Injective
+pub mod Single

@@ -9,6 +9,7 @@
 --   Nodes-fit ns                 so it is of each of the nodes
 --   Forked ns f                  the first fork at fault, or that there are too many forks
 --   Reads text j                 the text is that of the job j
+--   Unread text                  the text is that of no job
 --   Refused text f               the text is that of no job, and f says why
 use mathlib.Core.Path.{_≡_}
 use mathlib.Core.List.{List, [], _∷_, _++_}
@@ -90,16 +91,22 @@ pub record Reads (text : List ℕ) (j : Job) : Type 0 where
   pub sized : Sized text
   pub whole : Whole (slots (written j)) text
 
+-- the text of no job
+abbrev pub Unread : List ℕ → Type 0
+Unread text = (j : Job) → Reads text j → ⊥
+
 pub record Wrong-line (text : List ℕ) (f : Fault) : Type 0 where
   pub sized : Sized text
   pub says : Written
   pub halts : Halts (slots says) text f
+  pub unread : Unread text
 
 pub record Wrong-forks (text : List ℕ) (f : Fault) : Type 0 where
   pub sized : Sized text
   pub says : Written
   pub whole : Whole (slots says) text
   pub forked : Forked (says .nodes) f
+  pub unread : Unread text
 
 abbrev pub Refused : List ℕ → Fault → Type 0
 Refused text Size = Missized text

@@ -69,6 +69,7 @@ pub record Wrong-line (text : List ℕ) (f : Fault) : Type 0 where
   pub sized : Sized text
   pub says : List Said
   pub halts : Halts (slots says) text f
+  pub unread : (p : Platform) → Reads text p → ⊥
 
 abbrev pub Refused : List ℕ → Fault → Type 0
 Refused text Size = Missized text
