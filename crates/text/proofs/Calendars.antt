@@ -25,7 +25,7 @@ use Rattle.text.specs.declared.key.Key.the-variants.{Tag, Engines, Marks as Ma
 use Rattle.text.specs.Slots.{In-range, Marks-fit, slot}
 use Rattle.text.specs.Value.{Numeral, Small, mark-bytes}
 
-spelled-more : (k m : ℕ) (acc : List ℕ) → length acc ≤ length (spelled k 10 false m acc)
+pub spelled-more : (k m : ℕ) (acc : List ℕ) → length acc ≤ length (spelled k 10 false m acc)
 spelled-more zero m acc = omega arith
 spelled-more (suc k) m acc = elim (cases-bool (eqb (m / 10) 0)) [
   | inl y ↦ rw y (omega arith)

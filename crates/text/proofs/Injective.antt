@@ -12,7 +12,7 @@ use Rattle.std.specs.Written.{decimal, digits, spelled, glyph}
 use Rattle.std.proofs.shelf.Tests.{cases-bool}
 use Rattle.text.specs.Split.{Lacks}
 use Rattle.text.specs.Value.{Small, Numeral, commas, listed, places, places-from}
-use Rattle.text.proofs.Calendars.{decimal-numeral}
+use Rattle.text.proofs.Calendars.{decimal-numeral, spelled-more}
 use Rattle.text.proofs.Cuts.{lacks-none, cut-front, cut-back}
 
 -- no number is written with a byte below the digits
@@ -34,18 +34,11 @@ module _ (b : ℕ) (low : b < 48) where
   unfolding digits
   lacks-any n = lacks-spelled 64 n [] tt
 
-spelled-some : (k m : ℕ) (acc : List ℕ) → length acc ≤ length (spelled k 10 false m acc)
-spelled-some zero m acc = omega arith
-spelled-some (suc k) m acc = elim (cases-bool (eqb (m / 10) 0)) [
-  | inl y ↦ rw y (omega arith)
-  | inr n ↦ let rec = spelled-some k (m / 10) (glyph false (m % 10) ∷ acc) in rw n (omega arith)
-]
-
 decimal-some : (n : ℕ) → 0 < length (decimal n)
 unfolding digits
 decimal-some n = elim (cases-bool (eqb (n / 10) 0)) [
   | inl y ↦ rw y (omega arith)
-  | inr no′ ↦ let rec = spelled-some 63 (n / 10) (glyph false (n % 10) ∷ []) in rw no′ (omega arith)
+  | inr no′ ↦ let rec = spelled-more 63 (n / 10) (glyph false (n % 10) ∷ []) in rw no′ (omega arith)
 ]
 
 commas-some : (n : ℕ) (ns : List ℕ) → 0 < length (commas (n ∷ ns))
