@@ -8,8 +8,8 @@ use Rattle.engine.proofs.sums.summed.Goals as goal
 pub loop-k-init : goal.loop-k-init
 loop-k-init c = (refl, sums_none (marked c.args.marks.now) (replicate 481 0) refl)
 
-pub overflow-add-table : goal.overflow-add-table
-overflow-add-table c =
+pub overflow_add-table : goal.overflow_add-table
+overflow_add-table c =
     let marks = marked c.args.marks.now in
     let k = c.loop-k.k in
     let here = c.loop-k.invariant.1 k (omega arith) in

@@ -9,10 +9,10 @@ pub returns : goal.returns
 returns c =
     let ns = c.args.nodes.now in
     let k = c.args.choice in
-    let same = c.kept-by-choice.ensures.same in
+    let same = c.kept_by_choice.ensures.same in
     record {
-      same = restricted_same ns c.requires.upward c.kept-by-choice.result c.restrict.result (by_choice ns k) (keeps Branch ns c.args.branch) same
+      same = restricted_same ns c.requires.upward c.kept_by_choice.result c.restrict.result (by_choice ns k) (keeps Branch ns c.args.branch) same
           (λ u v y. (and_parts (edge ns u v) (keeps Choice ns k u v) y).0) c.restrict.ensures.inside c.restrict.ensures.outside;
-      rises = restricted_rises ns c.requires.upward c.kept-by-choice.result c.restrict.result (by_choice ns k) (keeps Branch ns c.args.branch) same
+      rises = restricted_rises ns c.requires.upward c.kept_by_choice.result c.restrict.result (by_choice ns k) (keeps Branch ns c.args.branch) same
           (λ u v y. (and_parts (edge ns u v) (keeps Choice ns k u v) y).0) c.restrict.ensures.inside c.restrict.ensures.outside;
     }

@@ -24,11 +24,11 @@ loop-v-preserved c =
     let keep = leads c.args.edges.now in
     let v = c.loop-v.v in
     let was = c.loop-v.members in
-    let x = c.is-led.result in
+    let x = c.is_led.result in
     let room : v < length was = omega (arith, c.loop-v.invariant.0, c.loop-v-test.true, c.requires.0.few) in (
       length-set was v x ∙ c.loop-v.invariant.0,
       decides_turn (Led ns keep) was v x room c.loop-v.invariant.1 (tested ns keep c.requires.1 was v c.loop-v-test.true c.loop-v.invariant.1 x
-          (subst (λ row. MatchBool x (Free row ⊎ Meets (get_or c.args.edges.now v []) was) (SomeOf row × Apart (get_or c.args.edges.now v []) was)) c.after.ensures c.is-led.ensures)),
+          (subst (λ row. MatchBool x (Free row ⊎ Meets (get_or c.args.edges.now v []) was) (SomeOf row × Apart (get_or c.args.edges.now v []) was)) c.after.ensures c.is_led.ensures)),
       λ w past. get_or-set_other was v w x false (omega arith) ∙ c.loop-v.invariant.2 w (omega arith),
     )
 

@@ -15,7 +15,7 @@ loop-v-preserved c =
     let k = c.args.number in
     let v = c.loop-v.v in
     let was = c.loop-v.left in
-    let row = c.restrict-row.result in
+    let row = c.restrict_row.result in
     let room : v < length was = omega (arith, c.loop-v.invariant.0, c.loop-v-test.true, c.requires.few) in
     let same : (u : ℕ) → (not (covers m (at ns u)) || eqb (rank ns u v) (get_or c.picks-picks.result u 0)) ≡ keeps m ns k u v =
     λ u. elim (cases_lt u (length ns)) [
@@ -26,6 +26,6 @@ loop-v-preserved c =
     ] in (
       length-set was v row ∙ c.loop-v.invariant.0,
       row_set was v row room (λ u w. leads c.args.edges.now u w && keeps m ns k u w) c.loop-v.invariant.1
-          (λ u. c.restrict-row.ensures u ∙ ap (λ b. leads c.args.edges.now u v && b) (same u)),
+          (λ u. c.restrict_row.ensures u ∙ ap (λ b. leads c.args.edges.now u v && b) (same u)),
       λ w past u. row_other was v row u w (omega arith) ∙ c.loop-v.invariant.2 w (omega arith) u,
     )

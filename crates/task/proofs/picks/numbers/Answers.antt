@@ -19,8 +19,8 @@ returns c =
     let g : len - 0 ≡ len = omega arith in
     c.loop-u.invariant ∙ ap (λ u. product f u (len - u)) e ∙ ap (λ n. product f 0 n) g
 
-pub overflow-mul-total : goal.overflow-mul-total
-overflow-mul-total c =
+pub overflow_mul-total : goal.overflow_mul-total
+overflow_mul-total c =
     let u = c.loop-u.u in
     let small : c.loop-u.total * c.ways-total.result ≤ 81 =
     omega (

@@ -1,4 +1,4 @@
 use Rattle.engine.proofs.sums.Sums.of.Goals as goal
 
-pub invariant-of-result : goal.invariant-of-result
-invariant-of-result c = (c.requires.some, (c.requires.short, (c.requires.sized, (c.summed.ensures, tt))))
+pub invariant_of-result : goal.invariant_of-result
+invariant_of-result c = record { some = c.requires.some; short = c.requires.short; sized = c.requires.sized; summed = c.summed.ensures }

@@ -8,8 +8,8 @@ use Rattle.engine.proofs.sums.Sums.ones.Goals as goal
 both : (s : Sums) (i n : ℕ) → i ≤ s.marks.length → n ≤ s.marks.length → (get_or s.table i 0 ≤ get_or s.table (i + n) 0) × (get_or s.table (i + n) 0 - get_or s.table i 0 ≡ ones (marked s.marks) i n)
 both s i n low short = difference (marked s.marks) i n _ _ (s.summed (i + n) (omega arith)) (s.summed i (omega arith))
 
-pub overflow-sub-result : goal.overflow-sub-result
-overflow-sub-result c = (both c.args.self.now c.args.start c.args.n c.requires.0 c.requires.1).0
+pub overflow_sub-result : goal.overflow_sub-result
+overflow_sub-result c = (both c.args.self.now c.args.start c.args.n c.requires.0 c.requires.1).0
 
 pub returns : goal.returns
 returns c = (both c.args.self.now c.args.start c.args.n c.requires.0 c.requires.1).1

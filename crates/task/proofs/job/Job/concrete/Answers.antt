@@ -22,4 +22,4 @@ made ns choice kept edges members same told from =
 pub returns : goal.returns
 returns c =
     subst (λ ns. IsConcrete ns c.args.choice (record { members = c.led-members.result; edges = c.among.result })) c.graph-nodes.ensures.nodes
-    (made c.graph-nodes.result.now c.args.choice c.kept-by-choice-kept.result c.among.result c.led-members.result c.kept-by-choice-kept.ensures.same c.led-members.ensures c.among.ensures)
+    (made c.graph-nodes.result.now c.args.choice c.kept_by_choice-kept.result c.among.result c.led-members.result c.kept_by_choice-kept.ensures.same c.led-members.ensures c.among.ensures)
