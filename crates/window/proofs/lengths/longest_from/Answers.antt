@@ -13,8 +13,8 @@ found c =
     c.greatest.ensures
     ∙ greatest_tested (λ w. get_or c.column.result w false) (λ w. leads c.args.edges.now (c.loop-v.v - 1) w) (λ u. get_or c.loop-v.from u 0) 24 c.column.ensures
 
-pub overflow-add-from : goal.overflow-add-from
-overflow-add-from c =
+pub overflow_add-from : goal.overflow_add-from
+overflow_add-from c =
     let v = c.loop-v.v - 1 in
     let small : get_or c.args.weights.now v 0 + c.greatest.result ≤ 345600 =
     omega (

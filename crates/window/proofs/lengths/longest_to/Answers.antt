@@ -6,8 +6,8 @@ use Rattle.window.specs.Recurrences.{Settled}
 use Rattle.window.proofs.Settling.{settled_keep, settled_here, small_here, small_turn, settled_past}
 use Rattle.window.proofs.lengths.longest_to.Goals as goal
 
-pub overflow-add-to : goal.overflow-add-to
-overflow-add-to c =
+pub overflow_add-to : goal.overflow_add-to
+overflow_add-to c =
     let v = c.loop-v.v in
     let small : get_or c.args.weights.now v 0 + c.greatest.result ≤ 345600 =
     omega (

@@ -17,18 +17,18 @@ ready ns graph e sound choice g is m ws made =
     let sound' = subst Sound e sound in
     (ascends graph sound' choice g is, light graph sound' choice g is m ws (subst (λ (l : List Node). WeightsOf m l g.members ws) e made))
 
-pub longest-to-head-requires : goal.longest-to-head-requires
-longest-to-head-requires c =
+pub longest_to-head-requires : goal.longest_to-head-requires
+longest_to-head-requires c =
     ready c.graph-nodes.result.now (graph c.args.job.now) c.graph-nodes.ensures.nodes c.graph-nodes.ensures.sound c.args.choice c.concrete-concrete.result c.concrete-concrete.ensures
     Work c.weights-work.result c.weights-work.ensures
 
-pub longest-from-requires : goal.longest-from-requires
-longest-from-requires c =
+pub longest_from-requires : goal.longest_from-requires
+longest_from-requires c =
     ready c.graph-nodes.result.now (graph c.args.job.now) c.graph-nodes.ensures.nodes c.graph-nodes.ensures.sound c.args.choice c.concrete-concrete.result c.concrete-concrete.ensures
     Work c.weights-work.result c.weights-work.ensures
 
-pub longest-to-level-requires : goal.longest-to-level-requires
-longest-to-level-requires c =
+pub longest_to-level-requires : goal.longest_to-level-requires
+longest_to-level-requires c =
     ready c.graph-nodes.result.now (graph c.args.job.now) c.graph-nodes.ensures.nodes c.graph-nodes.ensures.sound c.args.choice c.concrete-concrete.result c.concrete-concrete.ensures
     Count c.weights-count.result c.weights-count.ensures
 
@@ -47,14 +47,14 @@ returns c =
     let work-is = weighs ns sound k g is Work ws work-made in
     let count-is = weighs ns sound k g is Count cs count-made in
     record {
-      head = longest_to ns sound k g is (work ns) ws work-is c.longest-to-head.result c.longest-to-head.ensures;
-      tail = λ v m. subst (LongestAfter ns k (work ns) v) (sym (c.minus-tail.ensures v)) (longest_after ns sound k g is (work ns) ws work-is c.longest-from.result c.longest-from.ensures v m);
-      level = longest_to ns sound k g is (counts ns) cs count-is c.longest-to-level.result c.longest-to-level.ensures;
+      head = longest_to ns sound k g is (work ns) ws work-is c.longest_to-head.result c.longest_to-head.ensures;
+      tail = λ v m. subst (LongestAfter ns k (work ns) v) (sym (c.minus-tail.ensures v)) (longest_after ns sound k g is (work ns) ws work-is c.longest_from.result c.longest_from.ensures v m);
+      level = longest_to ns sound k g is (counts ns) cs count-is c.longest_to-level.result c.longest_to-level.ensures;
       nowhere = λ v out. (
-        to_nowhere ns sound k g is Work ws work-made c.longest-to-head.result c.longest-to-head.ensures v out,
-        c.minus-tail.ensures v ∙ from_nowhere ns sound k g is Work ws work-made c.longest-from.result c.longest-from.ensures v out,
-        to_nowhere ns sound k g is Count cs count-made c.longest-to-level.result c.longest-to-level.ensures v out,
+        to_nowhere ns sound k g is Work ws work-made c.longest_to-head.result c.longest_to-head.ensures v out,
+        c.minus-tail.ensures v ∙ from_nowhere ns sound k g is Work ws work-made c.longest_from.result c.longest_from.ensures v out,
+        to_nowhere ns sound k g is Count cs count-made c.longest_to-level.result c.longest_to-level.ensures v out,
       );
-      span = largest_of ns sound k g is c.longest-to-head.result c.greatest-span.result c.greatest-span.ensures;
-      depth = largest_of ns sound k g is c.longest-to-level.result c.greatest-depth.result c.greatest-depth.ensures;
+      span = largest_of ns sound k g is c.longest_to-head.result c.greatest-span.result c.greatest-span.ensures;
+      depth = largest_of ns sound k g is c.longest_to-level.result c.greatest-depth.result c.greatest-depth.ensures;
     }
