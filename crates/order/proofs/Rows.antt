@@ -33,13 +33,11 @@ not_less : (p q : Bool) → is_lt (cond p Less (cond q Greater Equal)) ≡ false
 not_less true q is = absurd (true≢false is)
 not_less false q is = refl
 
-pub by_rank : IsTotalOrder (λ (x y : Candidate) (r : Ordering). r ≡ ranking x y)
+pub by_rank : IsTotalOrder (λ (x y : Candidate). ranking x y)
 by_rank = record {
-  cmp = ranking;
-  says = λ x y r is. is;
-  flip = λ x y. flip_by (ahead x y) (ahead y x) (ahead_strict.one_way x y);
+  antisymm = λ x y. flip_by (ahead x y) (ahead y x) (ahead_strict.one_way x y);
   trans = λ x y z p q. ap (λ b. cond b Less (cond (ahead z x) Greater Equal)) (ahead_strict.chain x y z (less_ahead (ahead x y) (ahead y x) p) (less_ahead (ahead y z) (ahead z y) q));
-  alike = λ x y z p. let neither = equal_not (ahead x y) (ahead y x) p in ap (λ w. ranking w z) (ahead_strict.level x y neither.0 neither.1);
+  congr = λ x y z p. let neither = equal_not (ahead x y) (ahead y x) p in ap (λ w. ranking w z) (ahead_strict.level x y neither.0 neither.1);
 }
 
 itself : (x : Candidate) (b : Bool) → ahead x x ≡ b → b ≡ false

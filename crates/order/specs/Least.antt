@@ -6,7 +6,7 @@ use Rattle.std.specs.declared.cmp.Ordering.{Ordering}
 use Rattle.std.specs.Cmp.{IsTotalOrder}
 use Rattle.std.specs.Ordering.{is_lt}
 
-pub record FirstLeast {K : Type 0} {R : K → K → Ordering → Type 0} (o : IsTotalOrder R) (items : List K) (i : ℕ) : Type 0 where
+pub record FirstLeast {K : Type 0} {R : K → K → Ordering} (o : IsTotalOrder R) (items : List K) (i : ℕ) : Type 0 where
   pub within : i < length items
   pub before : (k : ℕ) (d : K) → k < i → R (slice_index_or items i d) (slice_index_or items k d) ≡ Less
   pub after : (k : ℕ) (d : K) → i < k → k < length items → is_lt (R (slice_index_or items k d) (slice_index_or items i d)) ≡ false

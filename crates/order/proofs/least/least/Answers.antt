@@ -1,14 +1,14 @@
 use Rattle.std.proofs.Common.{sym, ◌∙◌, arith}
 use Rattle.order.proofs.Firsts.{least_from_best, takes, keeps}
 use Rattle.order.proofs.least.least.Goals as goal
-use Rattle.order.proofs.least.least.Goals.{then-is-lt, else-is-lt}
+use Rattle.order.proofs.least.least.Goals.{then-is_lt, else-is_lt}
 
 pub loop-i-preserved : goal.loop-i-preserved
 loop-i-preserved g c =
     let inv = c.loop-i.invariant in
-    elim c.if-is-lt.branch [
-      | then-is-lt w ↦ (omega (arith, w.best-is), inv.1, λ o. takes o _ _ _ _ _ (inv.2 o) c.loop-i-test.true c.index-items-i.is c.index-items-best.is _ c.cmp.ensures (sym c.is-lt.ensures ∙ w.if-is-lt.true) _ w.best-is)
-      | else-is-lt w ↦ (omega (arith, inv.0, w.best-is), inv.1, λ o. keeps o _ _ _ _ _ (inv.2 o) c.loop-i-test.true c.index-items-i.is c.index-items-best.is _ c.cmp.ensures (sym c.is-lt.ensures ∙ w.if-is-lt.false) _ w.best-is)
+    elim c.if-is_lt.branch [
+      | then-is_lt w ↦ (omega (arith, w.best-is), inv.1, λ o. takes o _ _ _ _ _ (inv.2 o) c.loop-i-test.true c.index-items-i.is c.index-items-best.is _ c.cmp.ensures (sym c.is_lt.ensures ∙ w.if-is_lt.true) _ w.best-is)
+      | else-is_lt w ↦ (omega (arith, inv.0, w.best-is), inv.1, λ o. keeps o _ _ _ _ _ (inv.2 o) c.loop-i-test.true c.index-items-i.is c.index-items-best.is _ c.cmp.ensures (sym c.is_lt.ensures ∙ w.if-is_lt.false) _ w.best-is)
     ]
 
 pub returns : goal.returns

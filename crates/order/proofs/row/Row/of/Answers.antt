@@ -2,7 +2,7 @@ use Rattle.std.proofs.Common.{◌<◌, ◌≤◌, length, ap, ◌∙◌, arith}
 use Rattle.order.proofs.Gathering.{gather_on, gather_skip, gather_end}
 use Rattle.order.proofs.Seeking.{from_other, from_tagged}
 use Rattle.order.proofs.row.Row.of.Goals as goal
-use Rattle.order.proofs.row.Row.of.Goals.{then-is-tagged, else-is-tagged}
+use Rattle.order.proofs.row.Row.of.Goals.{then-is_tagged, else-is_tagged}
 use Rattle.std.proofs.lemmas.List.{length-set}
 use Rattle.std.proofs.lemmas.Bool.Decides.{not_from_Decides}
 
@@ -12,9 +12,9 @@ loop-engine-preserved g c =
     let inv = c.loop-engine.invariant in
     let i = c.loop-engine.engine in
     let within : i < length tags = omega (arith, c.engines-engine-end.ensures) in
-    elim c.if-is-tagged.branch [
-      | then-is-tagged w ↦ (ap length w.items-is ∙ length-set _ _ _ ∙ inv.0, omega (arith, w.left-is, inv.1), inv.2, gather_on c.args.loads.now tags c.args.tag i c.loop-engine.items c.loop-engine.left _ inv.3 (omega (arith, inv.0, inv.1, inv.2)) (from_tagged tags c.args.tag i within (c.is-tagged.ensures.0 w.if-is-tagged.true)) c.if-is-tagged.items c.if-is-tagged.left w.items-is w.left-is)
-      | else-is-tagged w ↦ (ap length w.items-is ∙ inv.0, omega (arith, w.left-is, inv.1), inv.2, gather_skip c.args.loads.now tags c.args.tag i c.loop-engine.items c.loop-engine.left _ inv.3 (from_other tags c.args.tag i within (not_from_Decides c.is-tagged.result c.is-tagged.ensures w.if-is-tagged.false)) c.if-is-tagged.items c.if-is-tagged.left w.items-is w.left-is)
+    elim c.if-is_tagged.branch [
+      | then-is_tagged w ↦ (ap length w.items-is ∙ length-set _ _ _ ∙ inv.0, omega (arith, w.left-is, inv.1), inv.2, gather_on c.args.loads.now tags c.args.tag i c.loop-engine.items c.loop-engine.left _ inv.3 (omega (arith, inv.0, inv.1, inv.2)) (from_tagged tags c.args.tag i within (c.is_tagged.ensures.0 w.if-is_tagged.true)) c.if-is_tagged.items c.if-is_tagged.left w.items-is w.left-is)
+      | else-is_tagged w ↦ (ap length w.items-is ∙ inv.0, omega (arith, w.left-is, inv.1), inv.2, gather_skip c.args.loads.now tags c.args.tag i c.loop-engine.items c.loop-engine.left _ inv.3 (from_other tags c.args.tag i within (not_from_Decides c.is_tagged.result c.is_tagged.ensures w.if-is_tagged.false)) c.if-is_tagged.items c.if-is_tagged.left w.items-is w.left-is)
     ]
 
 pub returns : goal.returns
