@@ -124,11 +124,11 @@ pub(crate) fn lower(list: &[u8], node: usize) -> Option<After>
 pub(crate) fn kind_of(bytes: &[u8]) -> Option<Kind>
     ensures { MatchOption result ((k : Kind) → bytes.now ≢ word k) (λ k. bytes.now ≡ word k) }
 {
-    if bytes == b"subtask" {
+    if bytes == b"subtask".as_slice() {
         Some(Kind::SubTask)
-    } else if bytes == b"alternative" {
+    } else if bytes == b"alternative".as_slice() {
         Some(Kind::Alternative)
-    } else if bytes == b"conditional" {
+    } else if bytes == b"conditional".as_slice() {
         Some(Kind::Conditional)
     } else {
         None

@@ -25,14 +25,14 @@ tags_long t = omega (arith, length-take t.count t.table, t.few, t.sized)
 
 pub unreachable-requires : goal.unreachable-requires
 unreachable-requires c =
-    c.in-default.ensures (subst Rostered (sym (front (length c.args.engines.now) c.tags-of-tags.result _ c.tags-of-tags.ensures)) c.requires.1.0)
+    c.in_default.ensures (subst Rostered (sym (front (length c.args.engines.now) c.tags_of-tags.result _ c.tags_of-tags.ensures)) c.requires.1.0)
 
-pub unreachable-requires-in-default-new : goal.unreachable-requires-in-default-new
-unreachable-requires-in-default-new c =
+pub unreachable-requires-in_default-new : goal.unreachable-requires-in_default-new
+unreachable-requires-in_default-new c =
     let es = c.args.engines.now in
-    let marks = front (length es) c.marks-of-marks.result (map marks_in es) c.marks-of-marks.ensures in
-    let tags = c.in-Some.ensures ∙ front (length es) c.tags-of-tags.result (map (λ (e : Engine). e.tag) es) c.tags-of-tags.ensures in
-    c.in-default-new.ensures (record {
+    let marks = front (length es) c.marks_of-marks.result (map marks_in es) c.marks_of-marks.ensures in
+    let tags = c.in-Some.ensures ∙ front (length es) c.tags_of-tags.result (map (λ (e : Engine). e.tag) es) c.tags_of-tags.ensures in
+    c.in_default-new.ensures (record {
       many = ap length marks ∙ length-map es marks_in ∙ sym (length-map es (λ (e : Engine). e.tag)) ∙ ap length (sym tags) ∙ tags_long c.in-Some.roll;
       fit = subst (All Fit) (sym marks) c.requires.1.1;
     })
@@ -41,8 +41,8 @@ pub returns : goal.returns
 returns c =
     let es = c.args.engines.now in
     let made = c.in-Some-new.ensures in
-    let marks = front (length es) c.marks-of-marks.result (map marks_in es) c.marks-of-marks.ensures in
-    let tags = c.in-Some.ensures ∙ front (length es) c.tags-of-tags.result (map (λ (e : Engine). e.tag) es) c.tags-of-tags.ensures in
+    let marks = front (length es) c.marks_of-marks.result (map marks_in es) c.marks_of-marks.ensures in
+    let tags = c.in-Some.ensures ∙ front (length es) c.tags_of-tags.result (map (λ (e : Engine). e.tag) es) c.tags_of-tags.ensures in
     record {
       tags = ap tag_list made.1 ∙ tags;
       marks =

@@ -21,15 +21,15 @@ fitting text p reads =
     let fits = platform_fits text p reads in
     subst Fitting (front p) (omega (arith, length-take p.count p.engines, reads.described.few), (fits.0, fits.1))
 
-pub make-calendar-requires : goal.make-calendar-requires
+pub make_calendar-requires : goal.make_calendar-requires
 unfolding Fitting
-make-calendar-requires c = fitting c.args.text.now c.in-ok-platform.platform c.in-ok-platform.ensures
+make_calendar-requires c = fitting c.args.text.now c.in_ok-platform.platform c.in_ok-platform.ensures
 
 pub returns : goal.returns
 returns c =
-    let p = c.in-ok-platform.platform in
+    let p = c.in_ok-platform.platform in
     record {
       platform = p;
-      reads = c.in-ok-platform.ensures;
-      described = subst (λ (es : List Engine). CalendarOf es c.make-calendar.result) (sym (front p)) c.make-calendar.ensures;
+      reads = c.in_ok-platform.ensures;
+      described = subst (λ (es : List Engine). CalendarOf es c.make_calendar.result) (sym (front p)) c.make_calendar.ensures;
     }

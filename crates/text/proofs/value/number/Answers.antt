@@ -7,30 +7,30 @@ use Rattle.text.specs.Value.{Numeral}
 use Rattle.text.proofs.Numbers.{Short, numeral_short, numeral_digits, numeral_from, digit_in, front_low}
 use Rattle.text.proofs.value.number.Goals as goal
 
-low : (c : goal.In-ok-digit) → c.loop-byte.number < 100000000
+low : (c : goal.In_ok-digit) → c.loop-byte.number < 100000000
 low c =
-    let short : Short c.args.bytes.now = c.is-short.ensures.0 c.if-not-is-short.false in
+    let short : Short c.args.bytes.now = c.is_short.ensures.0 c.if-not-is_short.false in
     let len = length-take c.loop-byte.byte-index c.args.bytes.now in
     let few : c.loop-byte.byte-index < 9 = omega (arith, c.loop-byte-test.true, short.1) in
     omega (arith, c.loop-byte.invariant.0, front_low c.args.bytes.now c.loop-byte.byte-index few c.loop-byte.invariant.1 (omega arith))
 
-pub overflow-mul-number : goal.overflow-mul-number
-overflow-mul-number c = omega (arith, low c)
+pub overflow_mul-number : goal.overflow_mul-number
+overflow_mul-number c = omega (arith, low c)
 
-pub overflow-add-number : goal.overflow-add-number
-overflow-add-number c = omega (arith, low c, c.in-ok-digit.ensures.1)
+pub overflow_add-number : goal.overflow_add-number
+overflow_add-number c = omega (arith, low c, c.in_ok-digit.ensures.1)
 
-pub returns-then-not-is-short : goal.returns-then-not-is-short
-returns-then-not-is-short c = λ n w. both_ways _ c.if-not-is-short.true (c.is-short.ensures.1 (numeral_short n c.args.bytes.now w))
+pub returns-then-not-is_short : goal.returns-then-not-is_short
+returns-then-not-is_short c = λ n w. both_ways _ c.if-not-is_short.true (c.is_short.ensures.1 (numeral_short n c.args.bytes.now w))
 
-pub returns-in-err-digit : goal.returns-in-err-digit
-returns-in-err-digit c = rw c.from-residual.ensures (λ n w. c.in-err-digit.ensures (digit_in c.args.bytes.now c.loop-byte.byte-index (numeral_digits n c.args.bytes.now w) c.loop-byte-test.true))
+pub returns-in_err-digit : goal.returns-in_err-digit
+returns-in_err-digit c = rw c.from_residual.ensures (λ n w. c.in_err-digit.ensures (digit_in c.args.bytes.now c.loop-byte.byte-index (numeral_digits n c.args.bytes.now w) c.loop-byte-test.true))
 
 pub loop-byte-preserved : goal.loop-byte-preserved
 loop-byte-preserved c =
     let bs = c.args.bytes.now in
     let i = c.loop-byte.byte-index in
-    let is = c.in-ok-digit.ensures in (
+    let is = c.in_ok-digit.ensures in (
       cc (digits_value_more 10 bs i c.loop-byte-test.true, c.loop-byte.invariant.0, is.0),
       digits_more 10 bs i c.loop-byte-test.true c.loop-byte.invariant.1 (subst (λ d. d < 10) is.0 is.1),
     )
@@ -41,4 +41,4 @@ returns c =
     let all = take_all c.loop-byte.byte-index bs c.loop-byte-test.false in
     let digits : AllDigits 10 bs = subst (AllDigits 10) all c.loop-byte.invariant.1 in
     let is : digits_value 10 bs ≡ c.loop-byte.number = sym (c.loop-byte.invariant.0 ∙ ap (digits_value 10) all) in
-    subst (λ n. Numeral n bs) is (numeral_from bs (c.is-short.ensures.0 c.if-not-is-short.false) digits)
+    subst (λ n. Numeral n bs) is (numeral_from bs (c.is_short.ensures.0 c.if-not-is_short.false) digits)

@@ -6,26 +6,26 @@ use Rattle.text.proofs.Following.{took_next, took_value, stops_here, stops_next}
 use Rattle.text.proofs.Marking.{bits_written, fit_marks, marked_bits}
 use Rattle.text.proofs.lines.Lines.engine.Goals as goal
 
-pub returns-in-err-tag : goal.returns-in-err-tag
-returns-in-err-tag c =
-    let p = err_from_is_err_and c.from-residual.result c.from-residual.ensures.1 in
+pub returns-in_err-tag : goal.returns-in_err-tag
+returns-in_err-tag c =
+    let p = err_from_is_err_and c.from_residual.result c.from_residual.ensures.1 in
     let none : Said = record { tag = 0; marks = [] } in
-    rw (p.1, p.2) (none, stops_here c.in-err-tag.ensures)
+    rw (p.1, p.2) (none, stops_here c.in_err-tag.ensures)
 
-pub returns-in-err-marks : goal.returns-in-err-marks
-returns-in-err-marks c =
-    let p = err_from_is_err_and c.from-residual-in-err-marks.result c.from-residual-in-err-marks.ensures.1 in
-    let none : Said = record { tag = c.in-ok-tag.tag; marks = [] } in
-    rw (p.1, p.2) (none, stops_next c.in-ok-tag.ensures.0 (stops_here c.in-err-marks.ensures))
+pub returns-in_err-marks : goal.returns-in_err-marks
+returns-in_err-marks c =
+    let p = err_from_is_err_and c.from_residual-in_err-marks.result c.from_residual-in_err-marks.ensures.1 in
+    let none : Said = record { tag = c.in_ok-tag.tag; marks = [] } in
+    rw (p.1, p.2) (none, stops_next c.in_ok-tag.ensures.0 (stops_here c.in_err-marks.ensures))
 
 pub ones-requires : goal.ones-requires
-ones-requires c = (fit_marks _ c.in-ok-marks.ensures.1).0
+ones-requires c = (fit_marks _ c.in_ok-marks.ensures.1).0
 
 pub returns : goal.returns
 returns c =
-    let is = c.in-ok-marks.ensures in
-    let bs = c.in-ok-marks.marks.now in
+    let is = c.in_ok-marks.ensures in
+    let bs = c.in_ok-marks.marks.now in
     let same = bits_written bs (marked_bits _ bs is.1) ∙ ap mark_bytes (sym c.ones.ensures.marks) in (
-      took_next c.in-ok-tag.ensures.0 (took_value same is.0),
+      took_next c.in_ok-tag.ensures.0 (took_value same is.0),
       record { size = c.ones.ensures.size; short = (fit_marks bs is.1).0; rest = c.ones.ensures.rest },
     )

@@ -6,11 +6,11 @@ use Rattle.text.proofs.Dues.{due_took}
 use Rattle.std.proofs.lemmas.Result.{err_from_is_err_and}
 use Rattle.text.proofs.lines.Lines.marks.Goals as goal
 
-pub returns-in-err-line : goal.returns-in-err-line
-returns-in-err-line c = let p = err_from_is_err_and c.from-residual.result c.from-residual.ensures.1 in rw (p.1, p.2) (c.in-err-line.ensures 0)
+pub returns-in_err-line : goal.returns-in_err-line
+returns-in_err-line c = let p = err_from_is_err_and c.from_residual.result c.from_residual.ensures.1 in rw (p.1, p.2) (c.in_err-line.ensures 0)
 
 pub returns-in-Word : goal.returns-in-Word
 returns-in-Word c =
-    let due = c.in-ok-line.ensures in
-    let fit = c.are-marks-fit.ensures.0 c.if-are-marks-fit.true in
+    let due = c.in_ok-line.ensures in
+    let fit = c.are_marks_fit.ensures.0 c.if-are_marks_fit.true in
     (due_took Marks 0 _ _ _ _ due (sym (subst (Means sorts.TheVariants.Marks due.bytes) c.in-Word.is due.means).0) fit, fit)

@@ -6,18 +6,18 @@ use Rattle.std.proofs.lemmas.Result.{err_from_is_err_and}
 use Rattle.text.proofs.Graphs.{nodes_more, nodes_stop, fits_more, fits_take}
 use Rattle.text.proofs.lines.Lines.nodes.Goals as goal
 
-pub returns-in-err-table : goal.returns-in-err-table
-returns-in-err-table c =
-    let p = err_from_is_err_and c.from-residual.result c.from-residual.ensures.1 in
+pub returns-in_err-table : goal.returns-in_err-table
+returns-in_err-table c =
+    let p = err_from_is_err_and c.from_residual.result c.from_residual.ensures.1 in
     let inv = c.loop-v.invariant in
-    let stop = c.in-err-table.ensures in
+    let stop = c.in_err-table.ensures in
     let in' : c.loop-v.v ≤ length c.loop-v.table = omega (arith, inv.0, c.loop-v-test.true, c.requires) in
     rw (p.1, p.2) (nodes_stop c.loop-v.v c.args.count c.loop-v.table stop.0 _ _ _ _ _ c.loop-v-test.true in' inv.1 stop.1)
 
 pub loop-v-preserved : goal.loop-v-preserved
 loop-v-preserved c =
     let inv = c.loop-v.invariant in
-    let is = c.in-ok-table.ensures in
+    let is = c.in_ok-table.ensures in
     let in' : c.loop-v.v < length c.loop-v.table = omega (arith, inv.0, c.loop-v-test.true, c.requires) in
     (length-set _ _ _ ∙ inv.0, nodes_more c.loop-v.v c.loop-v.table _ _ _ _ _ _ _ in' inv.1 is.0, fits_more c.loop-v.v c.loop-v.table _ in' inv.2 is.1)
 
