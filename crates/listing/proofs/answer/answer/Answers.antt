@@ -5,10 +5,10 @@ use Rattle.task.specs.Flaws.{graph}
 use Rattle.listing.proofs.Making.{made_map}
 use Rattle.listing.proofs.answer.answer.Goals as goal
 
-pub returns-in-default : goal.returns-in-default
-returns-in-default c =
-    made_map c.refusal-line-in-default.result (λ s. string_bytes s ≡ refusal_line 9 0) (λ s. Answers c.args.text.now (string_bytes s))
-    (λ s p. inr (inl (record { job = c.in-Ok.job; reads = c.in-Ok.ensures; none = c.in-default.ensures; printed = p }))) c.refusal-line-in-default.ensures
+pub returns-in_default : goal.returns-in_default
+returns-in_default c =
+    made_map c.refusal_line-in_default.result (λ s. string_bytes s ≡ refusal_line 9 0) (λ s. Answers c.args.text.now (string_bytes s))
+    (λ s p. inr (inl (record { job = c.in-Ok.job; reads = c.in-Ok.ensures; none = c.in_default.ensures; printed = p }))) c.refusal_line-in_default.ensures
 
 pub returns : goal.returns
 returns c = made_map c.laid_out.result

@@ -11,5 +11,5 @@ line_more t f n was line will is it now' =
 pub loop-v-preserved : goal.loop-v-preserved
 loop-v-preserved c =
     line_more (title c.args.job.now.number c.args.choice) (line_of c.graph-nodes.result.now c.args.members.now c.args.windows.now) c.loop-v.v
-    (string_bytes c.loop-v.lines) (string_bytes c.in-ok-line.line) (string_bytes c.push-str.new.self) c.loop-v.invariant c.in-ok-line.ensures
-    (c.in-ok-push-str.ensures.bytes ∙ ap (λ b. string_bytes c.loop-v.lines ++ b) c.as-str.ensures.value)
+    (string_bytes c.loop-v.lines) (string_bytes c.in_ok-line.line) (string_bytes c.push_str.new.self) c.loop-v.invariant c.in_ok-line.ensures
+    (c.in_ok-push_str.ensures.bytes ∙ ap (λ b. string_bytes c.loop-v.lines ++ b) c.as_str.ensures.value)

@@ -7,18 +7,18 @@ use Rattle.listing.proofs.listing.answers.Goals as goal
 pub loop-left-smaller : goal.loop-left-smaller
 loop-left-smaller c =
     let was = ap (λ (o : Option (Bor (List ℕ))). leftover (option_map (λ x. x.now) o)) c.in-Some.is in
-    let falls = leftover_falls c.in-Some.input.now c.first-text.result.0.now (option_map (λ x. x.now) c.first-text.result.1) c.first-text.ensures in
-    subst (λ n. leftover (option_map (λ x. x.now) c.first-text.result.1) < n) (sym was) falls
+    let falls = leftover_falls c.in-Some.input.now c.first_text.result.0.now (option_map (λ x. x.now) c.first_text.result.1) c.first_text.ensures in
+    subst (λ n. leftover (option_map (λ x. x.now) c.first_text.result.1) < n) (sym was) falls
 
 pub loop-left-preserved : goal.loop-left-preserved
 loop-left-preserved c bs rest =
     let lines = string_bytes c.loop-left.lines in
-    let more = string_bytes c.in-ok-answer.field-0 in
-    let whole = subst (λ (o : Option (Bor (List ℕ))). Answered (option_map (λ x. x.now) o) (more ++ bs)) (sym c.in-Some.is) (one c.first-text.ensures c.in-ok-answer.ensures rest) in
-    let pushed = c.in-ok-push-str.ensures.bytes ∙ ap (λ b. lines ++ b) c.as-str.ensures.value in
+    let more = string_bytes c.in_ok-answer.field-0 in
+    let whole = subst (λ (o : Option (Bor (List ℕ))). Answered (option_map (λ x. x.now) o) (more ++ bs)) (sym c.in-Some.is) (one c.first_text.ensures c.in_ok-answer.ensures rest) in
+    let pushed = c.in_ok-push_str.ensures.bytes ∙ ap (λ b. lines ++ b) c.as_str.ensures.value in
     subst (Answered (option_map (λ x. x.now) c.args.texts)) (sym (append_assoc lines more bs) ∙ ap (λ b. b ++ bs) (sym pushed)) (c.loop-left.invariant (more ++ bs) whole)
 
 pub returns : goal.returns
 returns c =
-    let end = subst (λ (o : Option (Bor (List ℕ))). Answered (option_map (λ x. x.now) o) []) (sym c.in-default.is) none in
+    let end = subst (λ (o : Option (Bor (List ℕ))). Answered (option_map (λ x. x.now) o) []) (sym c.in_default.is) none in
     subst (Answered (option_map (λ x. x.now) c.args.texts)) (append-nil (string_bytes c.loop-left.lines)) (c.loop-left.invariant [] end)
