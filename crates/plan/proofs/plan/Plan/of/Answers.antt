@@ -2,22 +2,13 @@ use Rattle.std.proofs.Common.{ℕ, arith}
 use Rattle.plan.proofs.Branches.{branches_some, branches_few}
 use Rattle.plan.proofs.plan.Plan.of.Goals as goal
 
-pub invariant-of-result : goal.invariant-of-result
-invariant-of-result g c =
-    let holds = c.of.ensures.holds (c.is-possible.ensures.0 c.if-not-is-possible.false) in
-    let is = c.branches-branches.ensures in (
-      omega (arith, branches_some c.args.job.now),
-      (
-        omega (arith, branches_few c.args.job.now),
-        (
-          c.reached-by-branch-reached.ensures.sized,
-          (
-            λ v member sub_task. holds.roomy v ((c.concrete.ensures.nodes v).0 member) sub_task,
-            (
-              λ v member sub_task. holds.timely v ((c.concrete.ensures.nodes v).0 member) sub_task,
-              tt,
-            ),
-          ),
-        ),
-      ),
-    )
+pub invariant_of-result : goal.invariant_of-result
+invariant_of-result g c =
+    let holds = c.of.ensures.holds (c.is_possible.ensures.0 c.if-not-is_possible.false) in
+    record {
+      some = omega (arith, c.branches-branches.ensures, branches_some c.args.job.now);
+      few = omega (arith, c.branches-branches.ensures, branches_few c.args.job.now);
+      sized = c.reached_by_branch-reached.ensures.sized;
+      roomy = λ v member sub_task. holds.roomy v ((c.concrete.ensures.nodes v).0 member) sub_task;
+      timely = λ v member sub_task. holds.timely v ((c.concrete.ensures.nodes v).0 member) sub_task;
+    }

@@ -6,7 +6,7 @@ use Rattle.plan.proofs.Formed.{count_few, task_light}
 use Rattle.plan.proofs.Gathering.{given_some, given_none, gather_on, gather_skip, bound_set}
 use Rattle.task.specs.Graph.{at}
 use Rattle.plan.proofs.plan.Plan.part.Goals as goal
-use Rattle.plan.proofs.plan.Plan.part.Goals.{in-Some, in-default}
+use Rattle.plan.proofs.plan.Plan.part.Goals.{in-Some, in_default}
 
 blank_light : (n k : ℕ) → get_or (lib.ListN.replicate n 0) k 0 ≤ 14400
 blank_light zero k = omega arith
@@ -19,14 +19,14 @@ loop-v-init c = (refl, omega arith, refl, λ k. blank_light 24 k)
 room : (c : goal.In-Some) → c.loop-v.count < 24
 room c = omega (arith, count_few c.args.self.now, c.loop-v.invariant.1, c.loop-v-test.true)
 
-pub offset-bounds-tasks-count : goal.offset-bounds-tasks-count
-offset-bounds-tasks-count c = omega (arith, room c)
+pub offset_bounds-tasks-count : goal.offset_bounds-tasks-count
+offset_bounds-tasks-count c = omega (arith, room c)
 
 pub bounds-tasks-count : goal.bounds-tasks-count
 bounds-tasks-count c = omega (arith, count_few c.args.self.now, c.loop-v.invariant.1, c.loop-v-test.true)
 
-pub overflow-add-count : goal.overflow-add-count
-overflow-add-count c = omega (arith, room c)
+pub overflow_add-count : goal.overflow_add-count
+overflow_add-count c = omega (arith, room c)
 
 pub loop-v-preserved : goal.loop-v-preserved
 loop-v-preserved c =
@@ -44,16 +44,20 @@ loop-v-preserved c =
             gather_on p t v c.loop-v.tasks c.loop-v.count inv.2 found.0 low w.in-Some.task same c.match-task.tasks c.match-task.count w.tasks-is w.count-is,
             λ k. rw w.tasks-is (bound_set (λ (x : Task). x.ticks) 14400 c.loop-v.tasks c.loop-v.count w.in-Some.task inv.3 (omega (arith, ap (λ (x : Task). x.ticks) same, task_light p v)) k),
           )
-      | in-default w ↦ (
+      | in_default w ↦ (
         ap length w.tasks-is ∙ inv.0,
         omega (arith, w.count-is, inv.1),
-        gather_skip p t v c.loop-v.tasks c.loop-v.count inv.2 (given_none (t v) (task_at p v) c.task.result c.task.ensures w.in-default.is) c.match-task.tasks c.match-task.count w.tasks-is w.count-is,
+        gather_skip p t v c.loop-v.tasks c.loop-v.count inv.2 (given_none (t v) (task_at p v) c.task.result c.task.ensures w.in_default.is) c.match-task.tasks c.match-task.count w.tasks-is w.count-is,
         λ k. rw w.tasks-is (inv.3 k),
       )
     ]
 
-pub invariant-of-result : goal.invariant-of-result
-invariant-of-result c = (omega (arith, count_few c.args.self.now, c.loop-v.invariant.1, c.loop-v.auto.v-end), (c.loop-v.invariant.0, (c.loop-v.invariant.3, tt)))
+pub invariant_of-result : goal.invariant_of-result
+invariant_of-result c = record {
+  few = omega (arith, count_few c.args.self.now, c.loop-v.invariant.1, c.loop-v.auto.v-end);
+  sized = c.loop-v.invariant.0;
+  light = c.loop-v.invariant.3;
+}
 
 pub returns : goal.returns
 returns c =
