@@ -3,7 +3,7 @@
 
 usage: python3 tools/respell.py [--list]      at the top, once, right after the toolchain's own port script
 
-A name with a dash that a file of specs/ or proofs/ declares is respelled everywhere:
+A name with a dash, or a fact's with an underscore, that a file of specs/ or proofs/ declares is respelled everywhere:
   a fact or a type, which begins with a capital, in camel case   (All-fit becomes AllFit);
   every other name in snake case                                 (tag-list becomes tag_list);
   a test, which ends in a question mark, with the word is        (fork? becomes is_fork).
@@ -22,7 +22,7 @@ HEADED = re.compile(rf"^\s*(?:(?:pub|abbrev|unfoldable|data|record) )+({WORD})(?
 IMPORT = re.compile(r"use Rattle\.(\w+)\.[\w.+'-]*?\{([^}]*)\}", re.S)
 CLAUSE = re.compile(r"(?:requires|ensures)\s*\*?\s*(?:\w+\s*)?\{|ghost\s+(?:\w+\s*[:=]\s*)?\{")
 GHOST_USE = re.compile(r"ghost use [^;]*;")
-INDEX = re.compile(r"^( *--  +)(\S.*?)(  .*)?$")
+INDEX = re.compile(r"^( *--   )(\S.*?)(  .*)?$")
 SPAN = re.compile(r"\x60[^\x60\n]+\x60")
 
 
@@ -66,7 +66,7 @@ def respelled(name):
     if name.endswith("?"):
         return "is_" + name[:-1].replace("-", "_")
     if name[0].isupper():
-        return "".join(part[0].upper() + part[1:] for part in name.split("-"))
+        return "".join(part[:1].upper() + part[1:] for part in re.split("[-_]", name))
     return name.replace("-", "_")
 
 

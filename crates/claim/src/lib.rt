@@ -1,2 +1,4 @@
 //! What a part asks of the engine that it sits on.
+#![tactic(auto)]
+
 pub mod claim;

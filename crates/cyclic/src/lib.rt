@@ -1,1 +1,2 @@
 //! Strings of marks that repeat without end: the definitions and laws in `specs/`.
+#![tactic(auto)]

@@ -1,3 +1,4 @@
 pub mod Marking
 pub mod Summing
 pub mod Serving
+pub mod Calendars

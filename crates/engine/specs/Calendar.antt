@@ -3,7 +3,7 @@
 --   calendar n cs       the marks of the first n courses
 --   marks_of n cs e     the marks of the engine e
 --   supply_of, cycle_of, quota_of n cs e    its supply in so many ticks, its cycle and its quota
---   AllFit ms          the marks of each engine are fit
+--   AllFit ms           the marks of each engine are fit
 --   Matching n ms       there are marks for n engines, and all are fit
 use Rattle.std.specs.Prelude.{◌≡◌, ℕ, zero, suc, Bool, false, List, [], ◌∷◌, map, length, take, slice_index_or, refl}
 use Rattle.std.proofs.Common.{arith}

@@ -6,4 +6,4 @@ pub mod Marks
 pub mod Tags
 pub mod TagLaws
 pub mod Whole
-pub mod Calendars
+pub mod CalendarLaws

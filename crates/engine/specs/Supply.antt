@@ -1,5 +1,5 @@
 -- What a supply keeps: s n is the least ticks that an engine serves in any n ticks in a row.
---   Lawful s cycle quota         the laws of one engine
+--   Lawful s cycle quota        the laws of one engine
 --   NoneServed s cycle quota    an engine that does not exist
 use Rattle.std.specs.Prelude.{◌≡◌, ℕ, ◌+◌, ◌%◌, ◌≤◌}
 

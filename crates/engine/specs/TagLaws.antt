@@ -1,5 +1,5 @@
 -- A table of tags is a roster.
-use Rattle.std.specs.Prelude.{◌≡◌, ℕ, zero, suc, ◌≤◌, List, [], ◌∷◌, length, take, slice_index}
+use Rattle.std.specs.Prelude.{ℕ, zero, suc, ◌≤◌, List, [], ◌∷◌, take, slice_index}
 use Rattle.std.proofs.Common.{arith, length-take}
 use Rattle.std.specs.List.{AllByRecursion as All}
 use Rattle.engine.specs.declared.tags.Tags.{Tags}

@@ -1,6 +1,6 @@
 -- The supply of an engine that serves every tick.
 --   whole_supply count e n    n where the engine e is one of count, else 0
-use Rattle.std.specs.Prelude.{◌≡◌, ℕ, ◌+◌, Bool, true, false, cond, nat_lt, refl}
+use Rattle.std.specs.Prelude.{ℕ, Bool, true, false, cond, nat_lt, refl}
 use Rattle.std.proofs.Common.{arith}
 use Rattle.engine.specs.Supply.{Lawful}
 

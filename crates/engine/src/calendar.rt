@@ -1,11 +1,10 @@
 //! A platform whose engines follow marks.
 ghost use Rattle.std.specs.Prelude.{◌≡◌, ◌≤◌, map, length, MatchOption};
-ghost use Rattle.std.proofs.Common.{length-take, arith};
 ghost use Rattle.engine.specs.Calendar.{AllFit, Matching, calendar, calendar_laws, cycle_of, quota_of, supply_of};
+ghost use Rattle.engine.specs.CalendarLaws.{calendar_missing};
 ghost use Rattle.engine.specs.Marks.{marked};
 ghost use Rattle.engine.specs.TagLaws.{rostered_tags};
 ghost use Rattle.engine.specs.Tags.{tag_list};
-ghost use Rattle.engine.specs.Calendars.{none_served};
 
 use crate::course::Course;
 use crate::marks::Marks;
@@ -71,9 +70,7 @@ impl Supply for Calendar {
 
     ghost laws = { λ p. calendar_laws p.tags.count p.courses };
 
-    ghost missing = { λ p e past.
-        let long = length-take p.tags.count p.tags.table in
-        none_served p.tags.count p.courses e (omega (arith, p.tags.few, p.tags.sized)) };
+    ghost missing = { λ p. calendar_missing p.tags p.courses };
 
     fn supply(&self, engine: usize, ticks: u32) -> u32 {
         if engine < self.tags.count {

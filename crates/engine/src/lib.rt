@@ -1,4 +1,6 @@
 //! Engines: who they are, what they serve, and in which order they are tried.
+#![tactic(auto)]
+
 pub mod calendar;
 mod course;
 pub mod marks;

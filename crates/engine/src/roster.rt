@@ -5,9 +5,6 @@ ghost use Rattle.engine.specs.Roster.{Rostered, tag_of};
 /// The most engines that a platform has.
 pub const ENGINES: usize = 16;
 
-/// How many tags there are.
-pub const TAGS: usize = 8;
-
 /// Engines numbered from 0, each with a tag.
 pub trait Roster {
     /// The tags of the engines, in their order.

@@ -1,5 +1,5 @@
 -- How much of the texts is left: it falls with each text.
-use Rattle.std.proofs.Common.{◌≡◌, ℕ, suc, ◌+◌, ◌<◌, List, ◌∷◌, ◌++◌, length, Some, None, Option, ap, arith, length-append}
+use Rattle.std.proofs.Common.{ℕ, suc, ◌<◌, List, ◌∷◌, length, Some, None, Option, ap, arith, length-append}
 use Rattle.text.specs.Texts.{First}
 
 abbrev pub leftover : Option (List ℕ) → ℕ

@@ -1,8 +1,8 @@
 -- What the seating program prints of a job text.
---   lines_below f n                the lines f gives for the numbers below n, one after the other
---   laid_out j ns c members w      the lines of the job j with the choice c: a line for each sub-task among the members
---   Laid_out text bs               the text is that of a job, and bs its lines for the first possible choice under the proportional rule
---   Answers text bs                bs is the answer to the text: its first fault, or 9 where no choice is possible, or the job laid out
+--   lines_below f n              the lines f gives for the numbers below n, one after the other
+--   laid_out j ns c members w    the lines of the job j with the choice c: a line for each sub-task among the members
+--   LaidOut text bs              the text is that of a job, and bs its lines for the first possible choice under the proportional rule
+--   Answers text bs              bs is the answer to the text: its first fault, or 9 where no choice is possible, or the job laid out
 use Rattle.std.specs.Prelude.{◌≡◌, ℕ, zero, suc, ◌<◌, Bool, false, cond, ◌&&◌, ◌⊎◌, List, [], ◌++◌, length, slice_index, slice_index_or}
 use Rattle.listing.specs.Lines.{refusal_line, title, node_line}
 use Rattle.slack.specs.Proportional.{proportional}
@@ -34,7 +34,7 @@ line_of ns members w v = cond (slice_index_or members v false && is_sub_task (at
 abbrev pub laid_out : ℕ → List Node → ℕ → List Bool → Windows → List ℕ
 laid_out j ns c members w = title j c ++ lines_below (line_of ns members w) (length ns)
 
-pub record Laid_out (text bs : List ℕ) : Type 0 where
+pub record LaidOut (text bs : List ℕ) : Type 0 where
   pub job : Job
   pub choice : ℕ
   pub members : List Bool
@@ -58,4 +58,4 @@ pub record Faulty (text bs : List ℕ) : Type 0 where
   pub printed : bs ≡ refusal_line (number_of fault) (place_of fault)
 
 abbrev pub Answers : List ℕ → List ℕ → Type 0
-Answers text bs = Faulty text bs ⊎ (NoChoice text bs ⊎ Laid_out text bs)
+Answers text bs = Faulty text bs ⊎ (NoChoice text bs ⊎ LaidOut text bs)

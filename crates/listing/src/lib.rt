@@ -1,4 +1,6 @@
 //! What the seating program prints of a job text.
+#![tactic(auto)]
+
 pub mod answer;
 pub mod lines;
 pub mod listing;

@@ -1,5 +1,5 @@
 -- Going through the engines of a tag that pass a test, to a place.
-use Rattle.std.proofs.Common.{◌≡◌, ℕ, zero, suc, ◌+◌, ◌-◌, ◌<◌, ◌≤◌, Bool, true, false, cond, eqb, List, [], ◌∷◌, length, get_or, drop, Some, filter, Option, sym, refl, ap, ◌∙◌, add-one, arith}
+use Rattle.std.proofs.Common.{◌≡◌, ℕ, zero, suc, ◌+◌, ◌-◌, ◌<◌, ◌≤◌, Bool, true, false, cond, eqb, List, [], ◌∷◌, length, get_or, drop, Some, filter, sym, refl, ap, ◌∙◌, add-one, arith}
 use Rattle.engine.specs.Roster.{tag_of}
 use Rattle.order.specs.Listing.{engines_from, engines_of}
 use Rattle.std.proofs.lemmas.List.{drop_more, drop_all}

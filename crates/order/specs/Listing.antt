@@ -1,7 +1,7 @@
 -- Lists of the engines of a tag.
---   engines_of tags tag          the engines of the tag by rising number
---   times e list                 how often e stands in the list
---   EachOnce tags tag list      the list has every engine of the tag once, and nothing else
+--   engines_of tags tag       the engines of the tag by rising number
+--   times e list              how often e stands in the list
+--   EachOnce tags tag list    the list has every engine of the tag once, and nothing else
 use Rattle.std.specs.Prelude.{◌≡◌, ℕ, suc, ◌+◌, cond, List, [], ◌∷◌, Some, ◌==◌, ◌≢◌}
 use Rattle.engine.specs.Roster.{tag_of}
 

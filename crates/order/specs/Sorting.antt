@@ -1,7 +1,7 @@
 -- Lists in an order: before x y says that x comes before y.
---   put before x list         x put into the list, in front of the first that it comes before
---   sorted before list        each put in
---   InOrder before list      none comes before one that stands earlier
+--   put before x list      x put into the list, in front of the first that it comes before
+--   sorted before list     each put in
+--   InOrder before list    none comes before one that stands earlier
 use Rattle.std.specs.Prelude.{◌≡◌, Bool, false, cond, List, [], ◌∷◌}
 use Rattle.std.specs.List.{AllByRecursion as All}
 

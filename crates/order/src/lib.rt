@@ -1,4 +1,6 @@
 //! The order in which engines are tried.
+#![tactic(auto)]
+
 mod candidate;
 pub mod fullest;
 pub mod least;

@@ -1,7 +1,8 @@
 //! Engines in turn, from after the one that last took a part.
 ghost use Rattle.std.specs.Prelude.{◌≡◌, length};
 
-use engine::roster::TAGS;
+/// How many tags there are.
+pub const TAGS: usize = 8;
 
 /// By rising number from after the engine that last took a part of the tag; from the first engine for a tag that none took.
 #[derive(Clone, Copy)]

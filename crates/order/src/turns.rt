@@ -5,9 +5,9 @@ ghost use Rattle.order.specs.RotaLaws.{rota_complete};
 ghost use Rattle.std.specs.List.{slice_get};
 
 use crate::order::EngineOrder;
-use crate::rota::Rota;
+use crate::rota::{Rota, TAGS};
 use crate::tagged::is_tagged;
-use engine::roster::{ENGINES, Roster, TAGS};
+use engine::roster::{ENGINES, Roster};
 
 fn is_after(last: Option<usize>, engine: usize) -> bool
     ensures { result ≡ is_after last engine }

@@ -1,6 +1,5 @@
 -- How many branch numbers a job has: at least one, and at most 81.
-use Rattle.std.proofs.Common.{◌≡◌, ℕ, zero, suc, ◌-◌, ◌*◌, ◌≤◌, Bool, false, List, length, get_or, replicate, ap, ◌∙◌, inl, inr, mul-le-mul, arith}
-use lib.ListN.{length-replicate}
+use Rattle.std.proofs.Common.{◌≡◌, ℕ, zero, suc, ◌-◌, ◌*◌, ◌≤◌, false, length, get_or, replicate, ap, ◌∙◌, inl, inr, mul-le-mul, arith}
 use Rattle.std.proofs.lemmas.List.{get_or_past, get_or-replicate}
 use Rattle.std.proofs.lemmas.Bool.{cases_lt}
 use Rattle.task.specs.declared.job.Job.{Job}

@@ -1,9 +1,9 @@
 -- What a plan's sub-tasks ask is well formed: every window opens before it closes, and closes by the deadline.
-use Rattle.std.proofs.Common.{◌≡◌, ℕ, zero, suc, ◌+◌, ◌%◌, ◌<◌, ◌≤◌, Bool, true, false, cond, ◌&&◌, eqb, leb, List, [], ◌∷◌, ◌++◌, map, length, get_or, take, filter, sym, ap, ◌∙◌, subst, inl, inr, arith, length-take}
+use Rattle.std.proofs.Common.{◌≡◌, ℕ, zero, suc, ◌%◌, ◌<◌, ◌≤◌, Bool, true, false, cond, ◌&&◌, eqb, leb, List, [], ◌∷◌, ◌++◌, map, length, get_or, filter, ap, inl, inr, arith, length-take}
 use lib.ListN.{length-map}
 use Rattle.plan.specs.declared.part.Task.{Task}
 use Rattle.plan.specs.declared.plan.Plan.{Plan}
-use Rattle.plan.specs.Part.{task_at, tasks_below, tasks_where, tagged, part_of}
+use Rattle.plan.specs.Part.{task_at, tasks_below, tasks_where, tagged}
 use Rattle.plan.specs.Pattern.{branch_of, part_pattern, pattern_of, window_of}
 use Rattle.plan.specs.Plan.{nodes_of, reached_rows}
 use Rattle.std.specs.List.{AllByRecursion as All}
@@ -14,7 +14,7 @@ use Rattle.task.specs.declared.node.Node.TheVariants.{SubTask, Alternative, Cond
 use Rattle.task.specs.Graph.{at}
 use Rattle.task.specs.Node.{missing, is_sub_task, ticks}
 use Rattle.task.specs.Ranges.{numbers_fit}
-use Rattle.theory.specs.Pattern.{FitsIn, Pattern, WellFormed, Window}
+use Rattle.theory.specs.Pattern.{FitsIn, WellFormed, Window}
 
 pub count_few : (p : Plan) → p.job.count ≤ 24
 count_few p = leb-true p.job.count 24 (and_parts (leb 1 p.job.count) (leb p.job.count 24) p.job.counted).1

@@ -1,8 +1,8 @@
 -- A job under a choice.
---   nodes_of p                the nodes of its job
---   reached_rows p            for each branch number what an arrival with it reaches
---   IsPlan local j c p       p is the plan of the job j under the choice c, with the windows that the slack rule local gives
-use Rattle.std.specs.Prelude.{◌≡◌, ℕ, ◌<◌, ◌≤◌, Bool, false, List, [], take, slice_index_or}
+--   nodes_of p            the nodes of its job
+--   reached_rows p        for each branch number what an arrival with it reaches
+--   IsPlan local j c p    p is the plan of the job j under the choice c, with the windows that the slack rule local gives
+use Rattle.std.specs.Prelude.{◌≡◌, ℕ, ◌<◌, ◌≤◌, Bool, List, [], take, slice_index_or}
 use Rattle.plan.specs.declared.plan.Plan.{Plan}
 use Rattle.slack.specs.declared.rule.Position.{Position}
 use Rattle.task.specs.declared.job.Job.{Job}

@@ -1,4 +1,6 @@
 //! Reads a platform text and job texts from standard input, and prints the answers.
+#![tactic(auto)]
+
 use listing::listing::{MOST, listing};
 use std::io;
 use std::io::Read;

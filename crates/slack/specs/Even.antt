@@ -1,6 +1,6 @@
 -- The even rule.
 --   even p    head, and level / depth of the ticks that the span leaves of the deadline, rounded down;
---             the whole deadline after the last sub_task of a path, and outside the bounds
+--             the whole deadline after the last sub-task of a path, and outside the bounds
 use Rattle.std.specs.Prelude.{ℕ, ◌+◌, ◌-◌, ◌*◌, ◌/◌, cond, ◌==◌}
 use Rattle.slack.specs.declared.rule.Position.{Position}
 use Rattle.slack.specs.Rule.{bounded}

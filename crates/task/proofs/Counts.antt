@@ -1,5 +1,5 @@
 -- A loop that counts the numbers that pass a test: a turn at one that passes, and at one that does not.
-use Rattle.std.proofs.Common.{◌≡◌, ℕ, suc, ◌+◌, ◌≤◌, Bool, true, false, sym, add-one, arith}
+use Rattle.std.proofs.Common.{◌≡◌, ℕ, ◌+◌, ◌≤◌, Bool, true, false, add-one, arith}
 use Rattle.task.specs.Graph.{count_below}
 
 pub count_yes : (p : ℕ → Bool) (n was will : ℕ) → (was ≡ count_below p n) × (was ≤ n) → true ≡ p n → will ≡ was + 1 → (will ≡ count_below p (n + 1)) × (will ≤ n + 1)

@@ -1,5 +1,5 @@
 -- How many numbers there are: the product of the ways at each node, which is at most 81.
-use Rattle.std.proofs.Common.{◌≡◌, ℕ, zero, suc, ◌+◌, ◌-◌, ◌*◌, ◌^◌, ◌<◌, ◌≤◌, Bool, true, false, cond, ◌&&◌, leb, List, length, sym, refl, ap, ◌∙◌, inl, inr, mul-le-mul_right, mul_assoc, mul-le-mul_left, one-mul, pow-suc, arith}
+use Rattle.std.proofs.Common.{◌≡◌, ℕ, zero, suc, ◌+◌, ◌-◌, ◌*◌, ◌^◌, ◌<◌, ◌≤◌, Bool, true, cond, ◌&&◌, leb, List, length, refl, ap, inl, inr, mul-le-mul_right, mul_assoc, mul-le-mul_left, one-mul, pow-suc, arith}
 use native.Mathlib.Nat.{pow-le-pow_right}
 use Rattle.std.proofs.lemmas.Bool.{and_parts, cases_Bool, leb-true}
 use Rattle.std.proofs.lemmas.Bool.Decides.{nat_tests}
@@ -8,9 +8,9 @@ use Rattle.task.specs.declared.node.Node.TheVariants.{SubTask, Alternative, Cond
 use Rattle.task.specs.declared.node.Numbering.{Numbering}
 use Rattle.task.specs.declared.node.Numbering.TheVariants.{Choice, Branch}
 use Rattle.task.specs.Graph.{at, count_below, ins, outs}
-use Rattle.task.specs.Node.{covers, is_fork, is_alternative, is_conditional}
+use Rattle.task.specs.Node.{covers, is_fork}
 use Rattle.task.specs.Nodes.{ForksFit, few_forks}
-use Rattle.task.specs.Picks.{product, ways, numbers}
+use Rattle.task.specs.Picks.{product, ways}
 
 pub product_step : (f : ℕ → ℕ) (len u : ℕ) → 0 < u → u ≤ len → product f (u - 1) (len - (u - 1)) ≡ f (u - 1) * product f u (len - u)
 product_step f len zero some inside = absurd (omega arith)

@@ -1,8 +1,8 @@
 -- The concrete graph of a choice, and what an arrival reaches.
---   Led ns keep v         v has no edge in, or a kept edge leads to it from such a node, and so on
---   Member ns c v         v is a node of the concrete graph of the choice c
---   Reached ns c b v      the choice c and the branch number b reach v
---   Rises ns keep         every kept edge leads to a higher node of the graph
+--   Led ns keep v        v has no edge in, or a kept edge leads to it from such a node, and so on
+--   Member ns c v        v is a node of the concrete graph of the choice c
+--   Reached ns c b v     the choice c and the branch number b reach v
+--   Rises ns keep        every kept edge leads to a higher node of the graph
 --   IsConcrete ns c g    g has the nodes of the concrete graph and the kept edges between them
 use Rattle.std.specs.Prelude.{◌≡◌, ℕ, ◌<◌, Bool, true, false, List, length, Decides}
 use Rattle.task.specs.declared.node.Node.{Node}

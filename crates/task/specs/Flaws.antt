@@ -1,9 +1,9 @@
 -- Which numbers and nodes make a job.
---   graph j                   the nodes of the job j
---   HeaderFits n t d k       number n, period t, deadline d and k nodes lie in their ranges
---   InRange n t d ns         so do all numbers and edges of a job of the nodes ns
---   MadeOf n t d ns j        j is the job of these
---   Flawed n t d ns f         they make none, and f says why: out of range, the first fork at fault, or too many forks
+--   graph j               the nodes of the job j
+--   HeaderFits n t d k    number n, period t, deadline d and k nodes lie in their ranges
+--   InRange n t d ns      so do all numbers and edges of a job of the nodes ns
+--   MadeOf n t d ns j     j is the job of these
+--   Flawed n t d ns f     they make none, and f says why: out of range, the first fork at fault, or too many forks
 use Rattle.std.specs.Prelude.{◌≡◌, ℕ, ◌<◌, true, false, List, length, take}
 use Rattle.task.specs.declared.node.Node.{Node}
 use Rattle.task.specs.declared.job.Job.{Job}

@@ -1,16 +1,16 @@
 -- What makes a job sound.
---   fork_fits ns v      the node v is no fork, or has an edge in and two or three out
---   few_forks ns        at most four alternatives and four conditionals
---   Below v us          every node of us is below v
---   NumbersFit ns      the numbers of every node lie in their ranges
---   ForksFit ns        every fork is right
---   Sound ns            the nodes of a job
---   BlankFrom n ns     from n on the table is blank
+--   fork_fits ns v    the node v is no fork, or has an edge in and two or three out
+--   few_forks ns      at most four alternatives and four conditionals
+--   Below v us        every node of us is below v
+--   NumbersFit ns     the numbers of every node lie in their ranges
+--   ForksFit ns       every fork is right
+--   Sound ns          the nodes of a job
+--   BlankFrom n ns    from n on the table is blank
 use Rattle.std.specs.Prelude.{◌≡◌, ℕ, ◌<◌, ◌≤◌, Bool, true, false, cond, ◌&&◌, List, length, nat_le, slice_index_or}
 use Rattle.task.specs.declared.node.Node.{Node}
 use Rattle.task.specs.Node.{blank, is_fork, is_alternative, is_conditional}
 use Rattle.task.specs.Ranges.{numbers_fit}
-use Rattle.task.specs.Graph.{at, edge, Upward, count_below, ins, outs}
+use Rattle.task.specs.Graph.{at, Upward, count_below, ins, outs}
 
 abbrev pub fork_fits : List Node → ℕ → Bool
 fork_fits ns v = cond (is_fork (at ns v)) (nat_le 1 (ins ns v) && (nat_le 2 (outs ns v) && nat_le (outs ns v) 3)) true

@@ -1,7 +1,7 @@
 -- The ranges of a job's numbers.
 --   fits f           the number f lies in its range
 --   numbers_fit n    so do the numbers of the node n
-use Rattle.std.specs.Prelude.{ℕ, ◌%◌, Bool, true, ◌&&◌, ◌==◌, nat_le}
+use Rattle.std.specs.Prelude.{◌%◌, Bool, true, ◌&&◌, ◌==◌, nat_le}
 use Rattle.task.specs.declared.node.Node.{Node}
 use Rattle.task.specs.declared.node.Node.TheVariants.{SubTask, Alternative, Conditional}
 use Rattle.task.specs.declared.ranges.Field.{Field}

@@ -1,5 +1,5 @@
 -- Tables over the nodes of a job.
---   Free table, SomeOf table    no place is true; some place is
+--   Free table, SomeOf table     no place is true; some place is
 --   Meets a b, Apart a b         some place is true in both; none is
 --   Tells P table     the table says of each node whether it is P
 --   leads rows u v    the table of edges has one from u to v: row v has the nodes that an edge leads from

@@ -1,4 +1,6 @@
 //! Jobs: conditional task graphs, their choices and branches, and the windows of their sub-tasks.
+#![tactic(auto)]
+
 pub mod concrete;
 pub mod graph;
 pub mod job;

@@ -1,22 +1,22 @@
 -- What a platform text says has the tags and marks of a calendar.
-use Rattle.std.proofs.Common.{◌≡◌, ℕ, zero, suc, ◌+◌, ◌/◌, ◌%◌, ◌^◌, ◌<◌, ◌≤◌, Bool, true, false, cond, eqb, leb, List, [], ◌∷◌, map, length, get_or, take, decimal, sym, refl, ap, ◌∙◌, subst, inl, inr, pow-suc, le-div_iff_mul-le, arith, length-take}
+use Rattle.std.proofs.Common.{◌≡◌, ℕ, zero, suc, ◌+◌, ◌/◌, ◌%◌, ◌^◌, ◌<◌, ◌≤◌, Bool, true, false, eqb, leb, List, [], ◌∷◌, map, length, get_or, take, decimal, sym, refl, ap, ◌∙◌, subst, inl, inr, pow-suc, le-div_iff_mul-le, arith, length-take}
 use native.Mathlib.Nat.{pow-le-pow_right}
 use Rattle.std.specs.List.{AllByRecursion as All}
 use Rattle.std.specs.Fmt.{digits, digits_onto, digit_glyph}
 use Rattle.std.proofs.lemmas.Fmt.{length-decimal-le, decimal_injective}
 use Rattle.std.proofs.ByRecursion.{All-from_get_or}
 use Rattle.std.proofs.lemmas.List.{get_or-take, length-map}
-use Rattle.std.proofs.lemmas.Bool.{cases_lt, cases_Bool, and_parts, leb-true, eqb-true, ne_eqb, true≢false, both_ways}
+use Rattle.std.proofs.lemmas.Bool.{cases_lt, cases_Bool, and_parts, leb-true, ne_eqb}
 use Rattle.task.proofs.Places.{true_inside}
 use Rattle.engine.specs.Marks.{Fit}
 use Rattle.engine.specs.Roster.{Rostered}
 use Rattle.text.specs.declared.platform_text.Engine.{Engine}
 use Rattle.text.specs.declared.platform_text.Platform.{Platform}
 use Rattle.text.specs.CalendarText.{marks_in}
-use Rattle.text.specs.PlatformText.{Plain, Described, Reads, said, all_said, engines_slots, at, blank}
+use Rattle.text.specs.PlatformText.{Plain, Described, Reads, said, engines_slots, blank}
 use Rattle.text.specs.declared.key.Key.TheVariants.{Tag, Engines, Marks as Marks'}
 use Rattle.text.specs.Slots.{InRange, MarksFit, slot}
-use Rattle.text.specs.Value.{Numeral, Small, mark_bytes}
+use Rattle.text.specs.Value.{Numeral, mark_bytes}
 
 pub spelled_more : (k m : ℕ) (acc : List ℕ) → length acc ≤ length (digits_onto k 10 false m acc)
 spelled_more zero m acc = omega arith

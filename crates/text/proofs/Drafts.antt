@@ -1,5 +1,5 @@
 -- From the parts of a job text to the whole.
-use Rattle.std.proofs.Common.{◌≡◌, ℕ, ◌+◌, ◌<◌, true, false, List, [], ◌++◌, length, get_or, replicate, sym, ap, ◌∙◌, subst, inl, inr, arith}
+use Rattle.std.proofs.Common.{◌≡◌, ℕ, ◌+◌, ◌<◌, false, List, [], ◌++◌, length, get_or, replicate, sym, ap, ◌∙◌, subst, inl, inr, arith}
 use Rattle.std.proofs.lemmas.List.{append-nil, get_or_past, length-replicate}
 use Rattle.std.proofs.lemmas.Bool.{cases_lt, false≢true}
 use Rattle.task.specs.declared.job.Job.{Job}
@@ -10,7 +10,7 @@ use Rattle.task.specs.Node.{after, blank, missing}
 use Rattle.text.specs.declared.fault.Fault.{Fault}
 use Rattle.text.specs.declared.fault.Fault.TheVariants.{Size, Line, Form, Range, Fork, Forks}
 use Rattle.text.specs.declared.job_text.Header.{Header}
-use Rattle.text.specs.JobText.{Written, Forked, NodesFit, Reads, Refused, header, header_slots, nodes_slots, slots, written}
+use Rattle.text.specs.JobText.{Written, Forked, NodesFit, Reads, Refused, header_slots, nodes_slots, slots, written}
 use Rattle.text.specs.Slots.{Halts, Sized, Stops, Took, Whole, text_of}
 use Rattle.text.proofs.Following.{took_append, stops_after, stops_more}
 use Rattle.text.proofs.Single.{line_unread, forks_unread}

@@ -1,10 +1,10 @@
 -- A list of numbers, and the set that it writes, can be told from its bytes.
-use Rattle.std.proofs.Common.{◌≡◌, ℕ, zero, suc, ◌+◌, ◌/◌, ◌%◌, ◌<◌, ◌≤◌, Bool, true, false, cond, eqb, ltb, List, [], ◌∷◌, ◌++◌, length, get_or, decimal, sym, refl, ap, ◌∙◌, subst, inl, inr, arith, length-append}
+use Rattle.std.proofs.Common.{◌≡◌, ℕ, zero, suc, ◌+◌, ◌/◌, ◌%◌, ◌<◌, ◌≤◌, Bool, true, false, eqb, ltb, List, [], ◌∷◌, length, get_or, decimal, sym, refl, ap, ◌∙◌, subst, inl, inr, arith, length-append}
 use Rattle.std.specs.List.{AllByRecursion as All}
 use Rattle.std.specs.Fmt.{digits, digits_onto, digit_glyph}
 use Rattle.std.proofs.lemmas.Bool.{cases_Bool}
 use Rattle.text.specs.Split.{Lacks}
-use Rattle.text.specs.Value.{Small, Numeral, commas, listed, places, places_from}
+use Rattle.text.specs.Value.{Small, commas, listed, places, places_from}
 use Rattle.text.proofs.Calendars.{decimal_numeral, spelled_more}
 use Rattle.text.proofs.Cuts.{lacks_none, cut_front, cut_back}
 

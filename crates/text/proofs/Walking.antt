@@ -1,5 +1,5 @@
 -- A text is walked along the lines that are due: it runs through them, or breaks off.
-use Rattle.std.proofs.Common.{◌≡◌, ℕ, ◌+◌, ◌<◌, ◌≤◌, Bool, true, false, cond, not, ◌&&◌, eqb, ◌⊎◌, List, [], ◌∷◌, ◌++◌, map, length, decimal, sym, refl, ap, ◌∙◌, subst, inl, inr, append_assoc, arith}
+use Rattle.std.proofs.Common.{◌≡◌, ℕ, ◌+◌, ◌<◌, Bool, true, false, not, ◌&&◌, eqb, ◌⊎◌, List, [], ◌∷◌, ◌++◌, length, decimal, sym, refl, ap, ◌∙◌, subst, inl, inr, append_assoc, arith}
 use Rattle.std.specs.List.{AllByRecursion as All}
 use Rattle.std.proofs.lemmas.List.{append_cancel_left}
 use Rattle.std.proofs.lemmas.Bool.{and_parts, not-true, eqb-false}
@@ -10,7 +10,7 @@ use Rattle.text.specs.declared.key.Key.TheVariants.{Job, Period, Deadline, Nodes
 use Rattle.text.specs.declared.key.Sort as sorts
 use Rattle.text.specs.declared.value.Kind as kinds
 use Rattle.text.specs.Key.{key_bytes, sort_of}
-use Rattle.text.specs.Slots.{Slot, slot, text_of, InRange, Ranged, Taken, Took, Fails, Stops, Overruns, Whole}
+use Rattle.text.specs.Slots.{Slot, slot, text_of, InRange, Ranged, Taken, Fails, Stops, Overruns}
 use Rattle.text.specs.Split.{Lacks}
 use Rattle.text.specs.Value.{Small, Numeral, Listed, commas, listed, mark_bytes, word}
 use Rattle.text.specs.Value as values

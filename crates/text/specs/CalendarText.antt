@@ -1,7 +1,7 @@
 -- The calendar of a platform text.
---   marks_in e                 the marks of an engine that is described
---   CalendarOf es c           c has the tags and marks of the engines es
---   CalendarReads text c      the text is that of a platform, and c has its tags and marks
+--   marks_in e              the marks of an engine that is described
+--   CalendarOf es c         c has the tags and marks of the engines es
+--   CalendarReads text c    the text is that of a platform, and c has its tags and marks
 use Rattle.std.specs.Prelude.{◌≡◌, ℕ, List, map, take}
 use Rattle.engine.specs.declared.calendar.Calendar.{Calendar}
 use Rattle.engine.specs.declared.marks.Marks.{Marks}

@@ -3,7 +3,7 @@
 --                            that a list belongs to, else 0), and the value that is written
 --   text_of ss               the written lines, each its key, its value and byte 10
 --   number_fits k l n        n lies in the range of the key k with the limit l
---   MarksFit ms             at most 240 marks, a divisor of 14,400, with a one
+--   MarksFit ms              at most 240 marks, a divisor of 14,400, with a one
 --   Ranged k l bs            the value bs is well formed and in range
 --   Taken k bs value more    bs begins with a line of the key k with this value; more stands after it
 --   Took ss bs n cs m        bs begins with the lines ss, all in range; cs stands after them; line n was the last before, m is the last of them

@@ -1,4 +1,6 @@
 //! Reading jobs and platforms from text.
+#![tactic(auto)]
+
 pub mod calendar_text;
 pub mod fault;
 pub mod job_text;

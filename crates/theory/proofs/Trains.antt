@@ -1,11 +1,11 @@
--- The closed form is the greatest demand-in.
+-- The closed form is the greatest demand_in.
 use Rattle.std.proofs.Common.{◌≡◌, ℕ, zero, suc, ◌+◌, ◌-◌, ◌<◌, ◌≤◌, List, [], ◌∷◌, length, get_or, sym, refl, ap, inl, inr, arith}
 use Rattle.std.specs.List.{AllByRecursion as All}
 use Rattle.std.proofs.lemmas.List.Sums.{sum_by-cons}
 use Rattle.std.proofs.ByRecursion.{All-get_or}
 use Rattle.std.proofs.lemmas.Bool.{cases_lt}
 use Rattle.theory.specs.Pattern.{Pattern, FitsIn, WellFormed, Arrival, From, part, demand_in}
-use Rattle.theory.specs.Demand.{best, later, at_cut, demand}
+use Rattle.theory.specs.Demand.{best, at_cut, demand}
 use Rattle.theory.specs.Theorems.{DemandIsMet, DemandIsGreatest, GreatestIsOne}
 use Rattle.theory.proofs.Greatest.{most_at, most_attained}
 use Rattle.theory.proofs.Windows.{inner_past, inner_mono, best_at, best_attained}

@@ -9,7 +9,7 @@
 --   demand_of_all ps n  what several patterns ask together
 --   wholes, later_quick, at_cut_quick, demand_quick    the same in few steps: whole arrivals by a division, and cuts only at 0 and the offsets
 use Rattle.std.specs.Prelude.{ℕ, zero, suc, ◌+◌, ◌-◌, ◌*◌, ◌/◌, max, List, [], ◌∷◌, sum_by}
-use Rattle.theory.specs.Pattern.{Window, Pattern, inner}
+use Rattle.theory.specs.Pattern.{Pattern, inner}
 
 abbrev pub greatest : {X : Type 0} → (X → ℕ) → List X → ℕ
 greatest f [] = 0

@@ -1,13 +1,13 @@
 -- What one placed job asks of one engine.
---   Window              the window of a sub-task, counted from an arrival, and its ticks
---   Pattern             a period, a deadline, and for each branch the windows of the sub-tasks that it reaches on the engine
---   WellFormed p       the deadline is at least 1 and at most the period, there is a branch, and every window lies before the deadline
---   share u y w         the ticks of w where its window lies between u and y after the arrival, else 0
---   inner ws u y        the ticks of the windows ws that lie between u and y after the arrival
---   Arrival             when a job arrives, and the branch that this arrival takes
---   Arrivals p as       each arrival comes at least a period after the one before, and has one of the branches
---   demand_in p as x y  the ticks of all windows of the arrivals that lie between x and y
---   Greatest p n d      d is the greatest of these over all arrivals and all stretches of n ticks
+--   Window                the window of a sub-task, counted from an arrival, and its ticks
+--   Pattern               a period, a deadline, and for each branch the windows of the sub-tasks that it reaches on the engine
+--   WellFormed p          the deadline is at least 1 and at most the period, there is a branch, and every window lies before the deadline
+--   share u y w           the ticks of w where its window lies between u and y after the arrival, else 0
+--   inner ws u y          the ticks of the windows ws that lie between u and y after the arrival
+--   Arrival               when a job arrives, and the branch that this arrival takes
+--   Arrivals p as         each arrival comes at least a period after the one before, and has one of the branches
+--   demand_in p as x y    the ticks of all windows of the arrivals that lie between x and y
+--   Greatest p n d        d is the greatest of these over all arrivals and all stretches of n ticks
 use Rattle.std.specs.Prelude.{◌≡◌, ℕ, ◌+◌, ◌-◌, ◌<◌, ◌≤◌, cond, ◌&&◌, List, [], ◌∷◌, length, sum_by, nat_le, slice_index_or}
 use Rattle.std.specs.List.{AllByRecursion as All}
 

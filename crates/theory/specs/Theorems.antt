@@ -3,9 +3,9 @@
 --   GreatestIsOne       there is only one greatest total
 --   DemandIsMet         it is met in any stretch that begins at the deadline or later, by arrivals before its end: so all jobs of an engine can meet theirs at once
 --   DemandIsQuick       the quick form is the closed form
---   DemandGrows          more ticks ask no less; All-grow says so of several patterns
---   DemandSettles        past the deadline, m periods more ask for m whole arrivals more, and m periods ask for at least m
---   SettlesAll r         where all periods divide a belt cycle of 14,400 ticks and the supply of two stretches is no more than that of both in a row, r ticks settle every number of them
+--   DemandGrows         more ticks ask no less; AllGrow says so of several patterns
+--   DemandSettles       past the deadline, m periods more ask for m whole arrivals more, and m periods ask for at least m
+--   SettlesAll r        where all periods divide a belt cycle of 14,400 ticks and the supply of two stretches is no more than that of both in a row, r ticks settle every number of them
 use Rattle.std.specs.Prelude.{◌≡◌, ℕ, ◌+◌, ◌*◌, ◌%◌, ◌<◌, ◌≤◌, List}
 use Rattle.std.specs.List.{AllByRecursion as All}
 use Rattle.theory.specs.Pattern.{Pattern, WellFormed, Arrival, Arrivals, demand_in, Greatest}

@@ -1,4 +1,6 @@
 //! The mathematics of demand: how much work of a placed job can fall due on an engine within n ticks.
+#![tactic(auto)]
+
 ghost use Rattle.std.specs.Prelude.{◌≡◌};
 ghost use Rattle.theory.specs.Theorems.{AllGrow, DemandGrows, DemandIsGreatest, DemandIsMet, DemandIsQuick, DemandSettles, GreatestIsOne, SettlesAll};
 

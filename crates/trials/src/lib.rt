@@ -1,4 +1,6 @@
 //! Tables of texts and the answers that they get. Tests only.
+#![tactic(auto)]
+
 #[cfg(test)]
 mod answer_cases;
 #[cfg(test)]

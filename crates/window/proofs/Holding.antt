@@ -1,5 +1,5 @@
 -- Under a lawful slack rule the windows of a possible choice hold: each sub-task has room for its work, and none opens before one on a path to it is due.
-use Rattle.std.proofs.Common.{◌≡◌, ℕ, zero, suc, ◌+◌, ◌<◌, ◌≤◌, Bool, true, false, cond, ◌&&◌, leb, ◌⊎◌, List, length, get_or, sym, refl, ap, ◌∙◌, inl, inr, arith}
+use Rattle.std.proofs.Common.{◌≡◌, ℕ, zero, suc, ◌+◌, ◌<◌, ◌≤◌, Bool, true, false, cond, ◌&&◌, leb, ◌⊎◌, List, get_or, sym, refl, ap, inl, inr, arith}
 use Rattle.std.proofs.lemmas.Bool.{and_parts, leb-true, cases_Bool, cases_eq, true≢false, false≢true}
 use Rattle.task.specs.declared.node.Node.{Node}
 use Rattle.task.specs.declared.node.Node.TheVariants.{SubTask, Alternative, Conditional}
@@ -7,7 +7,6 @@ use Rattle.task.specs.Concrete.{Member, next}
 use Rattle.task.specs.Graph.{at}
 use Rattle.task.specs.Node.{ticks, is_sub_task}
 use Rattle.task.specs.Nodes.{Sound}
-use Rattle.task.specs.Picks.{by_choice}
 use Rattle.task.specs.Ranges.{numbers_fit}
 use Rattle.task.proofs.Leading.{led_inside}
 use Rattle.slack.specs.declared.rule.Position.{Position}

@@ -1,6 +1,6 @@
 -- A table that settles has the longest paths.
-use Rattle.std.proofs.Common.{◌≡◌, ℕ, zero, suc, ◌+◌, ◌-◌, ◌<◌, ◌≤◌, Bool, true, false, cond, List, length, get_or, sym, refl, ap, ◌∙◌, subst, inl, inr, add_comm, arith}
-use Rattle.std.proofs.lemmas.Bool.{and_parts, cases_lt, both_ways}
+use Rattle.std.proofs.Common.{◌≡◌, ℕ, zero, suc, ◌+◌, ◌-◌, ◌<◌, ◌≤◌, true, List, length, get_or, sym, subst, inl, inr, arith}
+use Rattle.std.proofs.lemmas.Bool.{and_parts}
 use Rattle.task.specs.declared.node.Node.{Node}
 use Rattle.task.specs.declared.tables.Concrete.{Concrete}
 use Rattle.task.specs.Concrete.{Member, next, IsConcrete}
@@ -11,10 +11,9 @@ use Rattle.task.specs.declared.node.Numbering.TheVariants.{Choice}
 use Rattle.task.specs.Tables.{leads}
 use Rattle.task.proofs.Places.{edge_inside}
 use Rattle.task.proofs.Leading.{led_inside}
-use Rattle.window.specs.Greatest.{greatest}
 use Rattle.window.specs.Path.{Path, stay, step, LongestTo, LongestAfter}
 use Rattle.window.specs.Recurrences.{Ascends, Settled}
-use Rattle.window.proofs.Maxima.{greatest_at, greatest_found, greatest_zero}
+use Rattle.window.proofs.Maxima.{greatest_at, greatest_found}
 use Rattle.window.proofs.Paths.{path_end, path_front}
 
 pub rises : (ns : List Node) → Sound ns → (c u v : ℕ) → by_choice ns c u v ≡ true → (u < v) × (v < length ns)

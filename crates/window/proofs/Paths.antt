@@ -1,5 +1,5 @@
 -- Paths: where they end, and one node more in front.
-use Rattle.std.proofs.Common.{◌≡◌, ℕ, ◌+◌, ◌≤◌, true, List, sym, subst, add_assoc}
+use Rattle.std.proofs.Common.{◌≡◌, ℕ, ◌+◌, true, List, subst, add_assoc}
 use Rattle.task.specs.declared.node.Node.{Node}
 use Rattle.task.specs.Concrete.{Member, next}
 use Rattle.task.specs.Picks.{by_choice}

@@ -1,11 +1,11 @@
 -- Paths of the concrete graph of a choice.
---   weigh m n                    what the node n adds to a path: its ticks, or 1 where it is a sub-task
---   work ns v, counts ns v       these two of the node v
---   Path ns c w u v s            kept edges lead from u to v, and the weights w of the nodes on the way, both ends included, sum to s
---   LongestTo ns c w v h        h is the greatest sum over the paths that end at v
---   LongestAfter ns c w v t     t is the greatest sum over the paths that begin at v, without v
---   Possible ns c d              no path takes more than d ticks
---   FirstPossible ns d c        c is the first possible choice
+--   weigh m n                  what the node n adds to a path: its ticks, or 1 where it is a sub-task
+--   work ns v, counts ns v     these two of the node v
+--   Path ns c w u v s          kept edges lead from u to v, and the weights w of the nodes on the way, both ends included, sum to s
+--   LongestTo ns c w v h       h is the greatest sum over the paths that end at v
+--   LongestAfter ns c w v t    t is the greatest sum over the paths that begin at v, without v
+--   Possible ns c d            no path takes more than d ticks
+--   FirstPossible ns d c       c is the first possible choice
 use Rattle.std.specs.Prelude.{◌≡◌, ℕ, ◌+◌, ◌<◌, ◌≤◌, true, cond, List}
 use Rattle.task.specs.declared.node.Node.{Node}
 use Rattle.task.specs.Concrete.{Member}

@@ -1,9 +1,9 @@
 -- The windows of the sub-tasks of a concrete graph.
---   position d l v                  where the node v stands, in a job with the deadline d
---   Before ns c u v                 u is a predecessor of v in the concrete graph
---   Opens ns c ls v o               o is the largest local deadline of the predecessors of v, 0 where there is none
---   IsWindows ns c d local l w     w has the offset and the local deadline of each node of the concrete graph, 0 at the others
---   WindowsHold ns c d w           offset + ticks ≤ local deadline ≤ d at each sub-task, and no sub-task opens before one on a path to it is due
+--   position d l v                where the node v stands, in a job with the deadline d
+--   Before ns c u v               u is a predecessor of v in the concrete graph
+--   Opens ns c ls v o             o is the largest local deadline of the predecessors of v, 0 where there is none
+--   IsWindows ns c d local l w    w has the offset and the local deadline of each node of the concrete graph, 0 at the others
+--   WindowsHold ns c d w          offset + ticks ≤ local deadline ≤ d at each sub-task, and no sub-task opens before one on a path to it is due
 use Rattle.std.specs.Prelude.{◌≡◌, ℕ, ◌+◌, ◌<◌, ◌≤◌, true, false, ◌⊎◌, List, slice_index}
 use Rattle.task.specs.declared.node.Node.{Node}
 use Rattle.task.specs.Concrete.{Member}

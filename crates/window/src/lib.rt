@@ -1,4 +1,6 @@
 //! The longest paths of a concrete graph, and the windows of its sub-tasks.
+#![tactic(auto)]
+
 pub mod greatest;
 pub mod layout;
 pub mod lengths;

@@ -1,6 +1,6 @@
 use Rattle.std.proofs.Common.{◌≡◌, ◌<◌, length, refl, ◌∙◌, arith}
 use Rattle.std.proofs.lemmas.List.{length-set}
-use Rattle.engine.specs.Calendars.{first_course, more_courses, all_courses, unfit_at}
+use Rattle.engine.proofs.Calendars.{first_course, more_courses, all_courses, unfit_at}
 use Rattle.engine.proofs.calendar.courses.Goals as goal
 
 pub returns-in_err-courses : goal.returns-in_err-courses

@@ -1,4 +1,4 @@
-use Rattle.std.proofs.Common.{◌≡◌, ℕ, List, string_bytes, inl, inr}
+use Rattle.std.proofs.Common.{◌≡◌, string_bytes, inl, inr}
 use Rattle.listing.specs.Answer.{Answers, laid_out}
 use Rattle.listing.specs.Lines.{refusal_line}
 use Rattle.task.specs.Flaws.{graph}

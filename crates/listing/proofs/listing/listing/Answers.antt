@@ -1,4 +1,4 @@
-use Rattle.std.proofs.Common.{string_bytes, inl, inr}
+use Rattle.std.proofs.Common.{string_bytes, inr}
 use Rattle.listing.specs.Listing.{Answered, Lists}
 use Rattle.std.specs.Option.{option_map}
 use Rattle.listing.proofs.Making.{made_map}

@@ -1,5 +1,4 @@
-use Rattle.task.specs.Graph.{edge, at}
-use Rattle.task.specs.Node.{covers}
+use Rattle.task.specs.Graph.{edge}
 use Rattle.task.proofs.Counts.{count_yes, count_no}
 use Rattle.task.proofs.graph.edges_in.Goals as goal
 use Rattle.task.proofs.graph.edges_in.Goals.{then-comes_after, else-comes_after}

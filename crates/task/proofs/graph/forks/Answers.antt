@@ -1,4 +1,4 @@
-use Rattle.task.specs.Graph.{edge, at}
+use Rattle.task.specs.Graph.{at}
 use Rattle.task.specs.Node.{covers}
 use Rattle.task.proofs.Counts.{count_yes, count_no}
 use Rattle.task.proofs.graph.forks.Goals as goal

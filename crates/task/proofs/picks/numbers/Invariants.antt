@@ -1,4 +1,4 @@
-use Rattle.std.proofs.Common.{◌≡◌, ◌-◌, ◌≤◌, length}
+use Rattle.std.proofs.Common.{◌≡◌, ◌-◌, length}
 use Rattle.task.specs.Picks.{product, ways}
 use Rattle.task.proofs.picks.numbers.Given as goal
 

@@ -1,4 +1,4 @@
-use Rattle.std.proofs.Common.{◌≡◌, ◌<◌, length, take}
+use Rattle.std.proofs.Common.{◌≡◌, length, take}
 use Rattle.task.specs.Nodes.{BlankFrom}
 use Rattle.task.proofs.sound.table.Given as goal
 

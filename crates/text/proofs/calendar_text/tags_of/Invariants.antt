@@ -1,5 +1,4 @@
 use Rattle.std.proofs.Common.{◌≡◌, map, length, take}
-use Rattle.text.specs.CalendarText.{marks_in}
 use Rattle.text.proofs.calendar_text.tags_of.Given as goal
 
 abbrev pub invariant-loop-e : goal.invariant-loop-e

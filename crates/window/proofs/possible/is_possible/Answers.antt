@@ -1,4 +1,4 @@
-use Rattle.std.proofs.Common.{◌≤◌, true, sym, ◌∙◌, arith}
+use Rattle.std.proofs.Common.{arith}
 use Rattle.std.proofs.lemmas.Bool.{leb-true, le-leb}
 use Rattle.window.proofs.Paths.{path_end}
 use Rattle.window.proofs.possible.is_possible.Goals as goal

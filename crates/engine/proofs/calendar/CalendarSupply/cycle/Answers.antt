@@ -1,5 +1,6 @@
 use Rattle.std.proofs.Common.{length, sym, ap, ◌∙◌, arith}
-use Rattle.engine.specs.Calendars.{marks_at, none_served}
+use Rattle.engine.specs.CalendarLaws.{none_served}
+use Rattle.engine.proofs.Calendars.{marks_at}
 use Rattle.engine.proofs.calendar.CalendarSupply.cycle.Goals as goal
 
 pub returns-then-engine-self : goal.returns-then-engine-self

@@ -1,6 +1,7 @@
 use Rattle.std.proofs.Common.{Bool, List, length, sym, ap, ◌∙◌, arith}
 use Rattle.cyclic.specs.Ones.{ones}
-use Rattle.engine.specs.Calendars.{marks_at, none_served}
+use Rattle.engine.specs.CalendarLaws.{none_served}
+use Rattle.engine.proofs.Calendars.{marks_at}
 use Rattle.engine.proofs.calendar.CalendarSupply.quota.Goals as goal
 
 pub returns-then-engine-self : goal.returns-then-engine-self

@@ -1,4 +1,4 @@
-use Rattle.std.proofs.Common.{ℕ, arith}
+use Rattle.std.proofs.Common.{arith}
 use Rattle.plan.proofs.Branches.{branches_some, branches_few}
 use Rattle.plan.proofs.plan.Plan.of.Goals as goal
 

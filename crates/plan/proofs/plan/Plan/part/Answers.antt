@@ -1,4 +1,4 @@
-use Rattle.std.proofs.Common.{◌≡◌, ℕ, zero, suc, ◌<◌, ◌≤◌, Bool, true, false, ◌&&◌, leb, length, get_or, sym, refl, ap, ◌∙◌, arith, length-set}
+use Rattle.std.proofs.Common.{◌≡◌, ℕ, zero, suc, ◌<◌, ◌≤◌, Bool, false, ◌&&◌, length, get_or, refl, ap, ◌∙◌, arith, length-set}
 use Rattle.plan.specs.declared.part.Task.{Task}
 use Rattle.plan.specs.Part.{tagged, task_at}
 use Rattle.plan.specs.Plan.{nodes_of}

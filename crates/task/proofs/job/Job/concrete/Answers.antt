@@ -1,10 +1,10 @@
-use Rattle.std.proofs.Common.{◌≡◌, ℕ, Bool, true, false, ◌&&◌, List, get_or, Decides, sym, ◌∙◌, subst}
+use Rattle.std.proofs.Common.{◌≡◌, ℕ, Bool, false, ◌&&◌, List, get_or, sym, ◌∙◌, subst}
 use Rattle.std.proofs.lemmas.Bool.{and_parts, and_from}
 use Rattle.task.specs.declared.node.Node.{Node}
 use Rattle.task.specs.Concrete.{Led, Member, IsConcrete}
 use Rattle.task.specs.Picks.{by_choice}
 use Rattle.task.specs.Tables.{Tells, leads}
-use Rattle.task.proofs.Leading.{led_same, told_same}
+use Rattle.task.proofs.Leading.{told_same}
 use Rattle.task.proofs.job.Job.concrete.Goals as goal
 
 made : (ns : List Node) (choice : ℕ) (kept edges : List (List Bool)) (members : List Bool) → ((u v : ℕ) → leads kept u v ≡ by_choice ns choice u v)

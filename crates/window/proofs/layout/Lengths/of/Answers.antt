@@ -1,4 +1,4 @@
-use Rattle.std.proofs.Common.{◌≡◌, ℕ, ◌-◌, List, get_or, sym, ap, ◌∙◌, subst}
+use Rattle.std.proofs.Common.{◌≡◌, ℕ, List, sym, ◌∙◌, subst}
 use Rattle.task.specs.declared.node.Node.{Node}
 use Rattle.task.specs.declared.tables.Concrete.{Concrete}
 use Rattle.task.specs.Concrete.{IsConcrete}

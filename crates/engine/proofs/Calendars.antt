@@ -1,51 +1,16 @@
 -- The courses of a calendar and the marks that they follow.
-use Rattle.std.specs.Prelude.{◌≡◌, ℕ, zero, suc, ◌+◌, ◌<◌, ◌≤◌, Bool, false, cond, List, [], ◌∷◌, ◌++◌, map, length, take, slice_index_or, slice_set, refl}
-use Rattle.std.proofs.Common.{sym, ap, subst, ◌∙◌, arith}
-use Rattle.std.proofs.Math.Nat.{mod-one}
+use Rattle.std.specs.Prelude.{◌≡◌, ℕ, ◌+◌, ◌<◌, ◌≤◌, Bool, List, [], ◌∷◌, ◌++◌, map, length, take, slice_index_or, slice_set}
+use Rattle.std.proofs.Common.{sym, ap, subst, ◌∙◌, arith, length-take}
 use Rattle.std.proofs.ByRecursion.{All-get_or, All-more}
-use Rattle.std.proofs.lemmas.List.{get_or-map, get_or_past, get_or-take, length-map, length-take, map_more, map_push, take_all, take_more_set}
-use Rattle.cyclic.specs.Fewest.{fewest}
-use Rattle.cyclic.specs.Ones.{mark, ones}
-use Rattle.cyclic.specs.FewestLaws.{fewest_any}
+use Rattle.std.proofs.lemmas.List.{get_or-map, get_or-take, map_more, map_push, take_all, take_more_set}
 use Rattle.engine.specs.declared.course.Course.{Course}
 use Rattle.engine.specs.declared.marks.Marks.{Marks}
-use Rattle.engine.specs.Calendar.{AllFit, calendar, cycle_of, idle, marks_of, quota_of, supply_of}
+use Rattle.engine.specs.Calendar.{AllFit, calendar, idle, marks_of}
 use Rattle.engine.specs.Course.{served}
 use Rattle.engine.specs.Marks.{Fit, marked}
-use Rattle.engine.specs.Supply.{NoneServed}
-
-mark_idle : (k : ℕ) → mark idle k ≡ 0
-unfolding mark
-mark_idle k = ap (λ (j : ℕ). cond (slice_index_or idle j false) 1 0) (mod-one k)
-
-ones_idle : (i n : ℕ) → ones idle i n ≡ 0
-unfolding ones
-ones_idle i zero = refl
-ones_idle i (suc n) =
-    let rec = ones_idle i n in
-    let here = mark_idle (i + n) in
-    omega arith
-
-fewest_idle : (n : ℕ) → fewest idle n ≡ 0
-fewest_idle n =
-    let low = fewest_any idle (omega arith) n 0 in
-    let none = ones_idle 0 n in
-    omega arith
 
 pub marks_at : (n : ℕ) (cs : List Course) (e : ℕ) (x : Course) → e < n → e < length cs → marks_of n cs e ≡ served (slice_index_or cs e x)
 marks_at n cs e x low inside = get_or-map served (take n cs) e x idle (omega (arith, length-take n cs)) ∙ ap served (get_or-take n cs e x low)
-
-marks_past : (n : ℕ) (cs : List Course) (e : ℕ) → n ≤ e → marks_of n cs e ≡ idle
-marks_past n cs e past = get_or_past (map served (take n cs)) e idle (omega (arith, length-map (take n cs) served, length-take n cs))
-
-pub none_served : (n : ℕ) (cs : List Course) (e : ℕ) → n ≤ e → NoneServed (supply_of n cs e) (cycle_of n cs e) (quota_of n cs e)
-none_served n cs e past =
-    let is = marks_past n cs e past in
-    record {
-      idle = λ k. ap (λ (ms : List Bool). fewest ms k) is ∙ fewest_idle k;
-      one = ap length is;
-      nothing = ap (λ (ms : List Bool). ones ms 0 (length ms)) is ∙ ones_idle 0 1;
-    }
 
 -- the first course, one more, and all
 pub first_course : (ms : List Marks) (d : Marks) (c : Course) → 1 ≤ length ms → Fit (slice_index_or ms 0 d) × (c.marks ≡ slice_index_or ms 0 d) → AllFit (take 1 ms) × (◌≡◌ {A = List (List Bool)} (served c ∷ []) (map marked (take 1 ms)))
