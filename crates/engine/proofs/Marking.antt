@@ -1,7 +1,7 @@
 -- The marks of an engine, read from their table.
 use Rattle.std.proofs.Common.{◌≡◌, ℕ, ◌%◌, ◌<◌, ◌≤◌, Bool, true, false, cond, length, get_or, take, Decides, sym, refl, ap, ◌∙◌, subst, mod-lt, arith}
 use mir.Val.{bool_byte}
-use Rattle.std.specs.List.{ContainsAt as Has}
+use Rattle.std.specs.List.{ContainsAt}
 use Rattle.std.proofs.lemmas.List.{length-take-le, get_or-take, get_or_default}
 use Rattle.cyclic.specs.Ones.{mark}
 use Rattle.engine.specs.declared.marks.Marks.{Marks}
@@ -25,7 +25,7 @@ module _ (m : Marks) (some : 1 ≤ m.length) (short : m.length ≤ 240) (sized :
       let place = ap (λ (n : ℕ). get_or (marked m) (k % n) false) marked_long in
       as_byte (get_or m.table (k % m.length) false) ∙ ap (λ (b : Bool). cond b 1 0) (sym (place ∙ marked_at (k % m.length) low))
 
-  fit_if : 14400 % m.length ≡ 0 → (r : Bool) → Decides r (Has (marked m) true) → Decides r (Fit m)
+  fit_if : 14400 % m.length ≡ 0 → (r : Bool) → Decides r (ContainsAt (marked m) true) → Decides r (Fit m)
   fit_if divides r has = (
     λ yes'.
         let (k, low, is) = has.0 yes' in
@@ -37,5 +37,5 @@ module _ (m : Marks) (some : 1 ≤ m.length) (short : m.length ≤ 240) (sized :
         has.1 (k, low', λ d. get_or_default (marked m) k d false low' ∙ (marked_at k low ∙ is)),
   )
 
-  pub fit_if_serves : 14400 % m.length ≡ 0 → (n : ℕ) → n ≡ m.length → (r : Bool) → Decides r (Has (take n m.table) true) → Decides r (Fit m)
-  fit_if_serves divides n e r has = fit_if divides r (subst (λ (k : ℕ). Decides r (Has (take k m.table) true)) e has)
+  pub fit_if_serves : 14400 % m.length ≡ 0 → (n : ℕ) → n ≡ m.length → (r : Bool) → Decides r (ContainsAt (take n m.table) true) → Decides r (Fit m)
+  fit_if_serves divides n e r has = fit_if divides r (subst (λ (k : ℕ). Decides r (ContainsAt (take k m.table) true)) e has)

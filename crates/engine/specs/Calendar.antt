@@ -7,7 +7,7 @@
 --   Matching n ms       there are marks for n engines, and all are fit
 use Rattle.std.specs.Prelude.{◌≡◌, ℕ, zero, suc, Bool, false, List, [], ◌∷◌, map, length, take, slice_index_or, refl}
 use Rattle.std.proofs.Common.{arith}
-use Rattle.std.specs.List.{AllByRecursion as All}
+use Rattle.std.specs.List.{AllByRecursion}
 use Rattle.cyclic.specs.Fewest.{fewest}
 use Rattle.cyclic.specs.Ones.{ones}
 use Rattle.engine.specs.declared.course.Course.{Course}
@@ -35,7 +35,7 @@ abbrev pub quota_of : ℕ → List Course → ℕ → ℕ
 quota_of n cs e = ones (marks_of n cs e) 0 (cycle_of n cs e)
 
 abbrev pub AllFit : List Marks → Type 0
-AllFit ms = All Fit ms
+AllFit ms = AllByRecursion Fit ms
 
 pub record Matching (n : ℕ) (ms : List Marks) : Type 0 where
   pub many : length ms ≡ n

@@ -11,7 +11,7 @@ use Rattle.std.proofs.lemmas.List.{get_or-take, length-take-le, take_more, take-
 use Rattle.std.proofs.lemmas.Bool.{true≢false, false≢true, cases_order, cases_eq}
 use Rattle.std.specs.Cmp.{IsTotalOrder}
 use Rattle.std.specs.Ordering.{is_lt, ordering_reverse}
-use Rattle.std.specs.List.{AllByRecursion as All}
+use Rattle.std.specs.List.{AllByRecursion}
 
 flip_by : (p q : Bool) → (p ≡ true → q ≡ false) → cond p Less (cond q Greater Equal) ≡ ordering_reverse (cond q Less (cond p Greater Equal))
 flip_by true true one_way = absurd (true≢false (one_way refl))
@@ -44,7 +44,7 @@ itself : (x : Candidate) (b : Bool) → ahead x x ≡ b → b ≡ false
 itself x true is = sym is ∙ ahead_strict.one_way x x is
 itself x false is = refl
 
-none_ahead : (xs : List Candidate) (i : ℕ) (d : Candidate) → FirstLeast by_rank xs i → All (λ z. ahead z (get_or xs i d) ≡ false) xs
+none_ahead : (xs : List Candidate) (i : ℕ) (d : Candidate) → FirstLeast by_rank xs i → AllByRecursion (λ z. ahead z (get_or xs i d) ≡ false) xs
 unfolding by_rank
 none_ahead xs i d least =
     All-from_get_or (λ z. ahead z (get_or xs i d) ≡ false) xs d (λ k in'. elim (cases_order k i) [
@@ -80,14 +80,14 @@ module _ (items : List Candidate) (m i : ℕ) (d : Candidate) (in' : m < length 
             pushed ∙ sym moved ∙ ap (λ c. put ahead c (sorted ahead (set (take m items) i (get_or items m d)))) (get_or-take m items i d inner.1) ∙ ap (λ l. put ahead (get_or items i d) (sorted ahead l)) (sym inner.0)
       ]
 
-  all_rest : (P : Candidate → Type 0) → All P (take (m + 1) items) → All P (take m (set items i (get_or items m d)))
+  all_rest : (P : Candidate → Type 0) → AllByRecursion P (take (m + 1) items) → AllByRecursion P (take m (set items i (get_or items m d)))
   all_rest P all =
-      let front : All P (take m items) = subst (All P) (take-take m (m + 1) items (omega arith)) (All-take P m (take (m + 1) items) all) in
+      let front : AllByRecursion P (take m items) = subst (AllByRecursion P) (take-take m (m + 1) items (omega arith)) (All-take P m (take (m + 1) items) all) in
       let long : length (take (m + 1) items) ≡ m + 1 = length-take-le (m + 1) items (omega arith) in
       let end : P (get_or items m d) = subst P (get_or-take (m + 1) items m d (omega arith)) (All-get_or P (take (m + 1) items) m d (omega arith) all) in
       elim rest_is [
-        | inl last ↦ subst (All P) (sym last.0) front
-        | inr inner ↦ subst (All P) (sym inner.0) (All-set P (take m items) i (get_or items m d) end front)
+        | inl last ↦ subst (AllByRecursion P) (sym last.0) front
+        | inr inner ↦ subst (AllByRecursion P) (sym inner.0) (All-set P (take m items) i (get_or items m d) end front)
       ]
 
 pub taken_out : (items : List Candidate) (m i : ℕ) (d : Candidate) → m < length items → FirstLeast by_rank (take (m + 1) items) i → sorted ahead (take (m + 1) items) ≡ get_or items i d ∷ sorted ahead (take m (set items i (get_or items m d)))
@@ -96,7 +96,7 @@ taken_out items m i d in' least =
     let low : i ≤ m = omega (arith, least.within) in
     let here : get_or (take (m + 1) items) i d ≡ get_or items i d = get_or-take (m + 1) items i d (omega arith) in
     let P : Candidate → Type 0 = λ z. ahead z (get_or items i d) ≡ false in
-    let all : All P (take (m + 1) items) = subst (λ c. All (λ z. ahead z c ≡ false) (take (m + 1) items)) here (none_ahead (take (m + 1) items) i d least) in
+    let all : AllByRecursion P (take (m + 1) items) = subst (λ c. AllByRecursion (λ z. ahead z c ≡ false) (take (m + 1) items)) here (none_ahead (take (m + 1) items) i d least) in
     put_out items m i d in' low ∙ put_first ahead ahead_strict (get_or items i d) (sorted ahead (take m (set items i (get_or items m d)))) (all_sorted ahead P (take m (set items i (get_or items m d))) (all_rest items m i d in' low P all))
 
 pub first_out : (items : List Candidate) (n i : ℕ) (d : Candidate) → n ≤ length items → FirstLeast by_rank (take n items) i → map (λ c. c.engine) (sorted ahead (take n items)) ≡ (get_or items i d).engine ∷ map (λ c. c.engine) (sorted ahead (take (n - 1) (set items i (get_or items (n - 1) d))))

@@ -3,7 +3,7 @@ use Rattle.std.proofs.Common.{◌≡◌, ℕ, zero, suc, ◌<◌, Bool, true, fa
 use Rattle.order.specs.Sorting.{put, sorted, InOrder}
 use Rattle.std.proofs.ByRecursion.{All-weaker}
 use Rattle.std.proofs.lemmas.Bool.{true≢false, cond_both}
-use Rattle.std.specs.List.{AllByRecursion as All}
+use Rattle.std.specs.List.{AllByRecursion}
 
 -- before is a total order: of two that differ one comes before the other
 pub record Strict {X : Type 0} (before : X → X → Bool) : Type 0 where
@@ -18,11 +18,11 @@ module _ {X : Type 0} (before : X → X → Bool) where
   pub put_no : (x y : X) (ys : List X) → before x y ≡ false → put before x (y ∷ ys) ≡ y ∷ put before x ys
   put_no x y ys is = rw is refl
 
-  pub all_put : (P : X → Type 0) (x : X) (ys : List X) → P x → All P ys → All P (put before x ys)
+  pub all_put : (P : X → Type 0) (x : X) (ys : List X) → P x → AllByRecursion P ys → AllByRecursion P (put before x ys)
   all_put P x [] here all = (here, tt)
-  all_put P x (y ∷ ys) here all = cond_both (before x y) (x ∷ (y ∷ ys)) (y ∷ put before x ys) (λ l. All P l) (λ _. (here, all)) (λ _. (all.0, all_put P x ys here all.1))
+  all_put P x (y ∷ ys) here all = cond_both (before x y) (x ∷ (y ∷ ys)) (y ∷ put before x ys) (λ l. AllByRecursion P l) (λ _. (here, all)) (λ _. (all.0, all_put P x ys here all.1))
 
-  pub all_sorted : (P : X → Type 0) (xs : List X) → All P xs → All P (sorted before xs)
+  pub all_sorted : (P : X → Type 0) (xs : List X) → AllByRecursion P xs → AllByRecursion P (sorted before xs)
   all_sorted P [] all = tt
   all_sorted P (x ∷ xs) all = all_put P x (sorted before xs) all.0 (all_sorted P xs all.1)
 
@@ -84,6 +84,6 @@ module _ {X : Type 0} (before : X → X → Bool) (o : Strict before) where
       let same : x ≡ y = o.level x y e back in
       put_no before x y ys e ∙ ap (λ l. y ∷ l) rec ∙ rw same refl
 
-  pub put_first : (x : X) (ys : List X) → All (λ y. before y x ≡ false) ys → put before x ys ≡ x ∷ ys
+  pub put_first : (x : X) (ys : List X) → AllByRecursion (λ y. before y x ≡ false) ys → put before x ys ≡ x ∷ ys
   put_first x [] all = refl
   put_first x (y ∷ ys) all = put_first_by x y ys (put_first x ys all.1) all.0 (before x y) refl

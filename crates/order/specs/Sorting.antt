@@ -3,7 +3,7 @@
 --   sorted before list     each put in
 --   InOrder before list    none comes before one that stands earlier
 use Rattle.std.specs.Prelude.{◌≡◌, Bool, false, cond, List, [], ◌∷◌}
-use Rattle.std.specs.List.{AllByRecursion as All}
+use Rattle.std.specs.List.{AllByRecursion}
 
 abbrev pub put : {X : Type 0} → (X → X → Bool) → X → List X → List X
 put before x [] = x ∷ []
@@ -15,4 +15,4 @@ sorted before (x ∷ xs) = put before x (sorted before xs)
 
 abbrev pub InOrder : {X : Type 0} → (X → X → Bool) → List X → Type 0
 InOrder before [] = Unit {0}
-InOrder before (x ∷ xs) = All (λ y. before y x ≡ false) xs × InOrder before xs
+InOrder before (x ∷ xs) = AllByRecursion (λ y. before y x ≡ false) xs × InOrder before xs

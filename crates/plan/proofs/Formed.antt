@@ -6,7 +6,7 @@ use Rattle.plan.specs.declared.plan.Plan.{Plan}
 use Rattle.plan.specs.Part.{task_at, tasks_below, tasks_where, tagged}
 use Rattle.plan.specs.Pattern.{branch_of, part_pattern, pattern_of, window_of}
 use Rattle.plan.specs.Plan.{nodes_of, reached_rows}
-use Rattle.std.specs.List.{AllByRecursion as All}
+use Rattle.std.specs.List.{AllByRecursion}
 use Rattle.std.proofs.lemmas.List.{get_or_past}
 use Rattle.std.proofs.lemmas.Bool.{and_parts, cases_Bool, cases_lt, eqb-true, leb-true}
 use Rattle.task.specs.declared.node.Node.{Node}
@@ -38,12 +38,12 @@ task_light p v = elim (cases_lt v (length (nodes_of p))) [
   | inr past ↦ omega (arith, ap ticks (get_or_past (nodes_of p) v missing past))
 ]
 
-pub all_append : (Q : Task → Type 0) (xs ys : List Task) → All Q xs → All Q ys → All Q (xs ++ ys)
+pub all_append : (Q : Task → Type 0) (xs ys : List Task) → AllByRecursion Q xs → AllByRecursion Q ys → AllByRecursion Q (xs ++ ys)
 all_append Q [] ys a b = b
 all_append Q (x ∷ xs) ys (a, as') b = (a, all_append Q xs ys as' b)
 
 -- what holds of each node that passes holds of each sub-task that is taken
-pub all_below : (Q : Task → Type 0) (p : Plan) (t : ℕ → Bool) (n : ℕ) → ((v : ℕ) → v < n → t v ≡ true → Q (task_at p v)) → All Q (tasks_below p t n)
+pub all_below : (Q : Task → Type 0) (p : Plan) (t : ℕ → Bool) (n : ℕ) → ((v : ℕ) → v < n → t v ≡ true → Q (task_at p v)) → AllByRecursion Q (tasks_below p t n)
 all_below Q p t zero each = tt
 all_below Q p t (suc n) each =
     all_append Q (tasks_below p t n) (cond (t n) (task_at p n ∷ []) [])
@@ -53,23 +53,23 @@ all_below Q p t (suc n) each =
       | inr no' ↦ rw no' tt
     ])
 
-pub kept_all : (Q : Task → Type 0) (t : Task → Bool) (xs : List Task) → All Q xs → All Q (filter t xs)
+pub kept_all : (Q : Task → Type 0) (t : Task → Bool) (xs : List Task) → AllByRecursion Q xs → AllByRecursion Q (filter t xs)
 kept_all Q t [] all = tt
 kept_all Q t (x ∷ xs) (a, all) = elim (cases_Bool (t x)) [
   | inl yes' ↦ rw yes' (a, kept_all Q t xs all)
   | inr no' ↦ rw no' (kept_all Q t xs all)
 ]
 
-pub all_map : {X Y : Type 0} (Q : Y → Type 0) (f : X → Y) (xs : List X) → All (λ x. Q (f x)) xs → All Q (map f xs)
+pub all_map : {X Y : Type 0} (Q : Y → Type 0) (f : X → Y) (xs : List X) → AllByRecursion (λ x. Q (f x)) xs → AllByRecursion Q (map f xs)
 all_map Q f [] all = tt
 all_map Q f (x ∷ xs) (a, all) = (a, all_map Q f xs all)
 
-all_rows : (Q : List Window → Type 0) (f : List Bool → List Window) (rows : List (List Bool)) → ((row : List Bool) → Q (f row)) → All Q (map f rows)
+all_rows : (Q : List Window → Type 0) (f : List Bool → List Window) (rows : List (List Bool)) → ((row : List Bool) → Q (f row)) → AllByRecursion Q (map f rows)
 all_rows Q f [] each = tt
 all_rows Q f (row ∷ rows) each = (each row, all_rows Q f rows each)
 
 module _ (p : Plan) (t : Node → Bool) (only : (n : Node) → t n ≡ true → is_sub_task n ≡ true) where
-  pub tasks_fit : All (λ x. FitsIn p.job.deadline (window_of x)) (tasks_where p t)
+  pub tasks_fit : AllByRecursion (λ x. FitsIn p.job.deadline (window_of x)) (tasks_where p t)
   tasks_fit = all_below (λ x. FitsIn p.job.deadline (window_of x)) p (λ v. get_or p.members v false && t (at (nodes_of p) v)) p.job.count (λ v low yes'.
       let (member, passes) = and_parts (get_or p.members v false) (t (at (nodes_of p) v)) yes' in
       let is = only (at (nodes_of p) v) passes in
@@ -83,7 +83,7 @@ module _ (p : Plan) (t : Node → Bool) (only : (n : Node) → t n ≡ true → 
     some_time = leb-true 1 p.job.deadline (and_parts (leb 1 p.job.deadline) (leb p.job.deadline p.job.period) p.job.due).0;
     within_period = leb-true p.job.deadline p.job.period (and_parts (leb 1 p.job.deadline) (leb p.job.deadline p.job.period) p.job.due).1;
     some_branch = omega (arith, length-map (reached_rows p) (branch_of (tasks_where p t)), length-take p.branches p.reached, p.some, p.few, p.sized);
-    windows = all_rows (All (FitsIn p.job.deadline)) (branch_of (tasks_where p t)) (reached_rows p) (λ row.
+    windows = all_rows (AllByRecursion (FitsIn p.job.deadline)) (branch_of (tasks_where p t)) (reached_rows p) (λ row.
         all_map (FitsIn p.job.deadline) window_of (filter (λ (x : Task). get_or row x.node false) (tasks_where p t))
         (kept_all (λ x. FitsIn p.job.deadline (window_of x)) (λ (x : Task). get_or row x.node false) (tasks_where p t) tasks_fit));
   }

@@ -1,7 +1,7 @@
 -- What a platform text says has the tags and marks of a calendar.
 use Rattle.std.proofs.Common.{◌≡◌, ℕ, zero, suc, ◌+◌, ◌/◌, ◌%◌, ◌^◌, ◌<◌, ◌≤◌, Bool, true, false, eqb, leb, List, [], ◌∷◌, map, length, get_or, take, decimal, sym, refl, ap, ◌∙◌, subst, inl, inr, pow-suc, le-div_iff_mul-le, arith, length-take}
 use native.Mathlib.Nat.{pow-le-pow_right}
-use Rattle.std.specs.List.{AllByRecursion as All}
+use Rattle.std.specs.List.{AllByRecursion}
 use Rattle.std.specs.Fmt.{digits, digits_onto, digit_glyph}
 use Rattle.std.proofs.lemmas.Fmt.{length-decimal-le, decimal_injective}
 use Rattle.std.proofs.ByRecursion.{All-from_get_or}
@@ -78,7 +78,7 @@ marks_fit e plain r =
       serves = (i, omega arith, sym (get_or-take e.length e.marks i false (omega arith)) ∙ y);
     }
 
-engines_fit : (es : List Engine) → All Plain es → All InRange (engines_slots (map said es)) → All (λ t. t ≤ 7) (map (λ (e : Engine). e.tag) es) × All Fit (map marks_in es)
+engines_fit : (es : List Engine) → AllByRecursion Plain es → AllByRecursion InRange (engines_slots (map said es)) → AllByRecursion (λ t. t ≤ 7) (map (λ (e : Engine). e.tag) es) × AllByRecursion Fit (map marks_in es)
 engines_fit [] plain r = (tt, tt)
 engines_fit (e ∷ es) plain r =
     let rest = engines_fit es plain.1 r.1.1 in
@@ -87,13 +87,13 @@ engines_fit (e ∷ es) plain r =
 count_some : (n : ℕ) → InRange (slot Engines 0 (decimal n)) → 1 ≤ n
 count_some n r = omega (arith, decimal_numeral n r.0 r.1, leb-true 1 r.0 (and_parts (leb 1 r.0) (leb r.0 16) r.2).0)
 
-pub plain_all : (p : Platform) → Described p → All Plain (take p.count p.engines)
+pub plain_all : (p : Platform) → Described p → AllByRecursion Plain (take p.count p.engines)
 plain_all p d =
     All-from_get_or Plain (take p.count p.engines) blank (λ i below.
     let inside : i < p.count = omega (arith, length-take p.count p.engines) in
     subst Plain (sym (get_or-take p.count p.engines i blank inside)) (d.plain i inside))
 
-pub platform_fits : (text : List ℕ) (p : Platform) → Reads text p → Rostered (map (λ (e : Engine). e.tag) (take p.count p.engines)) × All Fit (map marks_in (take p.count p.engines))
+pub platform_fits : (text : List ℕ) (p : Platform) → Reads text p → Rostered (map (λ (e : Engine). e.tag) (take p.count p.engines)) × AllByRecursion Fit (map marks_in (take p.count p.engines))
 platform_fits text p reads =
     let es = take p.count p.engines in
     let fit = engines_fit es (plain_all p reads.described) reads.whole.ranged.1 in

@@ -4,7 +4,7 @@ use Rattle.std.proofs.lemmas.List.{length-append, length-set, get_or-set_other, 
 use Rattle.std.proofs.lemmas.Bool.{true≢false, false≢true, cases_eq}
 use Rattle.std.specs.Option.{option_map}
 use Rattle.std.specs.Str.Parse.{AllDigits}
-use Rattle.std.specs.List.{AllByRecursion as All}
+use Rattle.std.specs.List.{AllByRecursion}
 use Rattle.std.proofs.lemmas.Str.Parse.{digit_from_value}
 use Rattle.text.specs.Split.{Lacks, Cut}
 use Rattle.text.specs.Value.{Small, Lower, Numeral, Begins, Rises, Rising, Listed, commas, listed, places, places_from}
@@ -41,7 +41,7 @@ begins_shorter n more bs b = omega (arith, ap length b.1, length-append (decimal
 pub rises_begins : (P : ℕ → Type 0) (k : ℕ) (bs : List ℕ) → Rises P k bs → ((n : ℕ) (more : Option (List ℕ)) → Begins n more bs → ⊥) → ⊥
 rises_begins P k bs r none = go r.first r.more r.small r.written
   where
-    go : (n : ℕ) (ns : List ℕ) → All Small (n ∷ ns) → bs ≡ commas (n ∷ ns) → ⊥
+    go : (n : ℕ) (ns : List ℕ) → AllByRecursion Small (n ∷ ns) → bs ≡ commas (n ∷ ns) → ⊥
     go n [] s e = none n None (s.0, e)
     go n (m ∷ ns) s e = none n (Some (commas (m ∷ ns))) (s.0, e)
 
@@ -65,14 +65,14 @@ same_number m n s t e = numeral_same m n (decimal m) (record { small = s; writte
 pub rises_alone : (P : ℕ → Type 0) (k n : ℕ) (bs : List ℕ) → Begins n None bs → Rises P k bs → (k ≤ n) × P n
 rises_alone P k n bs b r = go r.first r.more r.rising r.small r.all r.written
   where
-    go : (m : ℕ) (ms : List ℕ) → Rising k (m ∷ ms) → All Small (m ∷ ms) → All P (m ∷ ms) → bs ≡ commas (m ∷ ms) → (k ≤ n) × P n
+    go : (m : ℕ) (ms : List ℕ) → Rising k (m ∷ ms) → AllByRecursion Small (m ∷ ms) → AllByRecursion P (m ∷ ms) → bs ≡ commas (m ∷ ms) → (k ≤ n) × P n
     go m [] up s p e = let same = same_number m n s.0 b.0 (sym e ∙ b.1) in (omega (arith, up.0), subst P same p.0)
     go m (o ∷ ms) up s p e = absurd (lacks_none 44 (decimal n) (decimal m) (commas (o ∷ ms)) (lacks_comma n b.0) (sym b.1 ∙ e))
 
 pub rises_rest : (P : ℕ → Type 0) (k n : ℕ) (more bs : List ℕ) → Begins n (Some more) bs → Rises P k bs → (k ≤ n) × P n × Rises P (n + 1) more
 rises_rest P k n more bs b r = go r.first r.more r.rising r.small r.all r.written
   where
-    go : (m : ℕ) (ms : List ℕ) → Rising k (m ∷ ms) → All Small (m ∷ ms) → All P (m ∷ ms) → bs ≡ commas (m ∷ ms) → (k ≤ n) × P n × Rises P (n + 1) more
+    go : (m : ℕ) (ms : List ℕ) → Rising k (m ∷ ms) → AllByRecursion Small (m ∷ ms) → AllByRecursion P (m ∷ ms) → bs ≡ commas (m ∷ ms) → (k ≤ n) × P n × Rises P (n + 1) more
     go m [] up s p e = absurd (lacks_none 44 (decimal m) (decimal n) more (lacks_comma m s.0) (sym e ∙ b.1))
     go m (o ∷ ms) up s p e =
         let both = sym e ∙ b.1 in
@@ -179,7 +179,7 @@ places_rising k [] = tt
 places_rising k (true ∷ us) = (omega arith, places_rising (suc k) us)
 places_rising k (false ∷ us) = rising_from k (suc k) (places_from (suc k) us) (omega arith) (places_rising (suc k) us)
 
-places_all : (P : ℕ → Type 0) (k : ℕ) (us : List Bool) → ((u : ℕ) → get_or us u false ≡ true → P (k + u)) → All P (places_from k us)
+places_all : (P : ℕ → Type 0) (k : ℕ) (us : List Bool) → ((u : ℕ) → get_or us u false ≡ true → P (k + u)) → AllByRecursion P (places_from k us)
 places_all P k [] h = tt
 places_all P k (true ∷ us) h = (subst P (add-zero k) (h 0 refl), places_all P (suc k) us (λ u e. subst P (let z : k + suc u ≡ suc k + u = omega arith in z) (h (suc u) e)))
 places_all P k (false ∷ us) h = places_all P (suc k) us (λ u e. subst P (let z : k + suc u ≡ suc k + u = omega arith in z) (h (suc u) e))
@@ -211,6 +211,6 @@ rises_listed P bs r = record { numbers = r.first ∷ r.more; rising = r.rising; 
 pub listed_rises : (P : ℕ → Type 0) (bs : List ℕ) → Rises (λ _. Unit {0}) 0 bs → Listed P bs → Rises P 0 bs
 listed_rises P bs r l = go l.numbers l.rising l.small l.all l.written
   where
-    go : (ns : List ℕ) → Rising 0 ns → All Small ns → All P ns → bs ≡ listed ns → Rises P 0 bs
+    go : (ns : List ℕ) → Rising 0 ns → AllByRecursion Small ns → AllByRecursion P ns → bs ≡ listed ns → Rises P 0 bs
     go [] up s p e = absurd (rises_begins (λ _. Unit {0}) 0 bs r (dash_begins bs e))
     go (n ∷ ns) up s p e = record { first = n; more = ns; rising = up; small = s; all = p; written = e }

@@ -1,6 +1,6 @@
 -- A list of numbers, and the set that it writes, can be told from its bytes.
 use Rattle.std.proofs.Common.{◌≡◌, ℕ, zero, suc, ◌+◌, ◌/◌, ◌%◌, ◌<◌, ◌≤◌, Bool, true, false, eqb, ltb, List, [], ◌∷◌, length, get_or, decimal, sym, refl, ap, ◌∙◌, subst, inl, inr, arith, length-append}
-use Rattle.std.specs.List.{AllByRecursion as All}
+use Rattle.std.specs.List.{AllByRecursion}
 use Rattle.std.specs.Fmt.{digits, digits_onto, digit_glyph}
 use Rattle.std.proofs.lemmas.Bool.{cases_Bool}
 use Rattle.text.specs.Split.{Lacks}
@@ -38,7 +38,7 @@ commas_some : (n : ℕ) (ns : List ℕ) → 0 < length (commas (n ∷ ns))
 commas_some n [] = decimal_some n
 commas_some n (m ∷ ns) = omega (arith, length-append (decimal n) (44 ∷ commas (m ∷ ns)), decimal_some n)
 
-commas_same : (ns ms : List ℕ) → All Small ms → commas ns ≡ commas ms → ns ≡ ms
+commas_same : (ns ms : List ℕ) → AllByRecursion Small ms → commas ns ≡ commas ms → ns ≡ ms
 commas_same [] [] s e = refl
 commas_same [] (m ∷ ms) s e = absurd (omega (arith, ap length e, commas_some m ms))
 commas_same (n ∷ ns) [] s e = absurd (omega (arith, ap length e, commas_some n ns))
@@ -56,23 +56,23 @@ dash_alone : (n : ℕ) (ns : List ℕ) → 45 ∷ [] ≡ commas (n ∷ ns) → �
 dash_alone n [] e = let none = subst (Lacks 45) (sym e) (lacks_any 45 (omega arith) n) in none.0 refl
 dash_alone n (m ∷ ns) e = omega (arith, ap length e, length-append (decimal n) (44 ∷ commas (m ∷ ns)), decimal_some n, commas_some m ns)
 
-listed_same : (ns ms : List ℕ) → All Small ms → listed ns ≡ listed ms → ns ≡ ms
+listed_same : (ns ms : List ℕ) → AllByRecursion Small ms → listed ns ≡ listed ms → ns ≡ ms
 listed_same [] [] s e = refl
 listed_same [] (m ∷ ms) s e = absurd (dash_alone m ms e)
 listed_same (n ∷ ns) [] s e = absurd (dash_alone n ns (sym e))
 listed_same (n ∷ ns) (m ∷ ms) s e = commas_same (n ∷ ns) (m ∷ ms) s e
 
-lower_bound : (k : ℕ) (ns : List ℕ) → All (λ n. suc k ≤ n) ns → All (λ n. k ≤ n) ns
+lower_bound : (k : ℕ) (ns : List ℕ) → AllByRecursion (λ n. suc k ≤ n) ns → AllByRecursion (λ n. k ≤ n) ns
 lower_bound k [] a = tt
 lower_bound k (n ∷ ns) a = (omega (arith, a.0), lower_bound k ns a.1)
 
-places_above : (k : ℕ) (us : List Bool) → All (λ n. k ≤ n) (places_from k us)
+places_above : (k : ℕ) (us : List Bool) → AllByRecursion (λ n. k ≤ n) (places_from k us)
 places_above k [] = tt
 places_above k (true ∷ us) = (omega arith, lower_bound k (places_from (suc k) us) (places_above (suc k) us))
 places_above k (false ∷ us) = lower_bound k (places_from (suc k) us) (places_above (suc k) us)
 
 not_above : (k : ℕ) (ns : List ℕ) (ws : List Bool) → k ∷ ns ≡ places_from (suc k) ws → ⊥
-not_above k ns ws e = let above = subst (All (λ n. suc k ≤ n)) (sym e) (places_above (suc k) ws) in omega (arith, above.0)
+not_above k ns ws e = let above = subst (AllByRecursion (λ n. suc k ≤ n)) (sym e) (places_above (suc k) ws) in omega (arith, above.0)
 
 places_same : (k : ℕ) (us ws : List Bool) → places_from k us ≡ places_from k ws → (u : ℕ) → get_or us u false ≡ get_or ws u false
 places_same k [] [] e u = refl
@@ -90,6 +90,6 @@ places_same k (false ∷ us) (false ∷ ws) e zero = refl
 places_same k (false ∷ us) (false ∷ ws) e (suc u) = places_same (suc k) us ws e u
 
 -- a set can be told from the list that writes it, where one list is well formed
-pub set_same : (us ws : List Bool) (ns : List ℕ) → All Small ns → listed (places ws) ≡ listed ns → listed (places us) ≡ listed (places ws) → (u : ℕ) → get_or us u false ≡ get_or ws u false
+pub set_same : (us ws : List Bool) (ns : List ℕ) → AllByRecursion Small ns → listed (places ws) ≡ listed ns → listed (places us) ≡ listed (places ws) → (u : ℕ) → get_or us u false ≡ get_or ws u false
 set_same us ws ns small is same =
     places_same 0 us ws (listed_same (places us) ns small (same ∙ is) ∙ sym (listed_same (places ws) ns small is))

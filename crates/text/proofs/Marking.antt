@@ -1,6 +1,6 @@
 -- Zeros and ones.
 use Rattle.std.proofs.Common.{◌≡◌, ℕ, zero, suc, ◌%◌, ◌<◌, ◌≤◌, Bool, true, false, cond, eqb, ◌⊎◌, List, [], ◌∷◌, map, length, get_or, sym, refl, ap, ◌∙◌, subst, inl, inr, arith}
-use Rattle.std.specs.List.{AllByRecursion as All}
+use Rattle.std.specs.List.{AllByRecursion}
 use Rattle.std.proofs.lemmas.List.{length-map}
 use Rattle.std.proofs.lemmas.Bool.{eq-eqb, ne_eqb, false≢true}
 use Rattle.text.specs.Slots.{MarksFit}
@@ -17,7 +17,7 @@ bit_mark : (b : ℕ) → Bit b → b ≡ cond (eqb b 49) 49 48
 bit_mark b (inl e) = rw (ne_eqb b 49 (λ x. omega arith)) e
 bit_mark b (inr e) = rw (eq-eqb b 49 e) e
 
-pub bits_written : (bs : List ℕ) → All Bit bs → bs ≡ mark_bytes (ones bs)
+pub bits_written : (bs : List ℕ) → AllByRecursion Bit bs → bs ≡ mark_bytes (ones bs)
 bits_written [] a = refl
 bits_written (b ∷ bs) a = let head = bit_mark b a.0 in let rest = bits_written bs a.1 in cc
 
@@ -25,17 +25,17 @@ mark_bit : (m : Bool) → Bit (cond m 49 48)
 mark_bit true = inr refl
 mark_bit false = inl refl
 
-written_bits : (ms : List Bool) → All Bit (mark_bytes ms)
+written_bits : (ms : List Bool) → AllByRecursion Bit (mark_bytes ms)
 written_bits [] = tt
 written_bits (m ∷ ms) = (mark_bit m, written_bits ms)
 
-pub marked_bits : (P : List Bool → Type 0) (bs : List ℕ) → Marked P bs → All Bit bs
-marked_bits P bs m = subst (All Bit) (sym m.written) (written_bits m.marks)
+pub marked_bits : (P : List Bool → Type 0) (bs : List ℕ) → Marked P bs → AllByRecursion Bit bs
+marked_bits P bs m = subst (AllByRecursion Bit) (sym m.written) (written_bits m.marks)
 
 pub marked_some : (P : List Bool → Type 0) (bs : List ℕ) → Marked P bs → 0 < length bs
 marked_some P bs m = omega (arith, ap length m.written, length-map {B = ℕ} m.marks (λ m. cond m 49 48), m.some)
 
-pub marked_from : (bs : List ℕ) → All Bit bs → 0 < length bs → Marked (λ _. Unit {0}) bs
+pub marked_from : (bs : List ℕ) → AllByRecursion Bit bs → 0 < length bs → Marked (λ _. Unit {0}) bs
 marked_from bs a l = record { marks = ones bs; some = omega (arith, length-map bs (λ b. eqb b 49)); written = bits_written bs a; all = tt }
 
 pub mark_one : (ms : List Bool) (k : ℕ) → get_or (mark_bytes ms) k 0 ≡ 49 → get_or ms k false ≡ true

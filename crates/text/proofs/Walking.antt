@@ -1,6 +1,6 @@
 -- A text is walked along the lines that are due: it runs through them, or breaks off.
 use Rattle.std.proofs.Common.{◌≡◌, ℕ, ◌+◌, ◌<◌, Bool, true, false, not, ◌&&◌, eqb, ◌⊎◌, List, [], ◌∷◌, ◌++◌, length, decimal, sym, refl, ap, ◌∙◌, subst, inl, inr, append_assoc, arith}
-use Rattle.std.specs.List.{AllByRecursion as All}
+use Rattle.std.specs.List.{AllByRecursion}
 use Rattle.std.proofs.lemmas.List.{append_cancel_left}
 use Rattle.std.proofs.lemmas.Bool.{and_parts, not-true, eqb-false}
 use Rattle.text.specs.declared.fault.Fault.{Fault}
@@ -36,12 +36,12 @@ lacks_append (x ∷ xs) ys a b = (a.0, lacks_append xs ys a.1 b)
 lacks_number : (n : ℕ) → Small n → Lacks 10 (decimal n)
 lacks_number n s = lacks_decimal 10 (λ p q. omega arith) n s
 
-lacks_commas : (ns : List ℕ) → All Small ns → Lacks 10 (commas ns)
+lacks_commas : (ns : List ℕ) → AllByRecursion Small ns → Lacks 10 (commas ns)
 lacks_commas [] s = tt
 lacks_commas (n ∷ []) s = lacks_number n s.0
 lacks_commas (n ∷ m ∷ ns) s = lacks_append (decimal n) (44 ∷ commas (m ∷ ns)) (lacks_number n s.0) ((λ e. omega arith), lacks_commas (m ∷ ns) s.1)
 
-lacks_listed : (ns : List ℕ) → All Small ns → Lacks 10 (listed ns)
+lacks_listed : (ns : List ℕ) → AllByRecursion Small ns → Lacks 10 (listed ns)
 lacks_listed [] s = ((λ e. omega arith), tt)
 lacks_listed (n ∷ ns) s = lacks_commas (n ∷ ns) s
 
@@ -62,7 +62,7 @@ form_lacks sorts.TheVariants.Kind bs f = subst (Lacks 10) (sym f.1) (lacks_word 
 form_lacks sorts.TheVariants.List bs f = subst (Lacks 10) (sym f.written) (lacks_listed f.numbers f.small)
 form_lacks sorts.TheVariants.Marks bs f = subst (Lacks 10) (sym f.written) (lacks_marks f.marks)
 
-unit_all : (P : ℕ → Type 0) (ns : List ℕ) → All P ns → All (λ _. Unit {0}) ns
+unit_all : (P : ℕ → Type 0) (ns : List ℕ) → AllByRecursion P ns → AllByRecursion (λ _. Unit {0}) ns
 unit_all P [] a = tt
 unit_all P (n ∷ ns) a = (tt, unit_all P ns a.1)
 
@@ -101,7 +101,7 @@ abbrev pub Breaks : List Slot → List ℕ → Type 0
 Breaks [] bs = 0 < length bs
 Breaks (s ∷ ss) bs = Broken s.key s.limit bs ⊎ ((cs : List ℕ) × InRange s × (bs ≡ key_bytes s.key ++ (s.value ++ (10 ∷ cs))) × Breaks ss cs)
 
-pub runs_whole : (ss : List Slot) (bs : List ℕ) → bs ≡ text_of ss → All InRange ss → Runs ss bs
+pub runs_whole : (ss : List Slot) (bs : List ℕ) → bs ≡ text_of ss → AllByRecursion InRange ss → Runs ss bs
 runs_whole [] bs e r = e
 runs_whole (s ∷ ss) bs e r = (text_of ss, r.0, e, runs_whole ss (text_of ss) refl r.1)
 
@@ -122,12 +122,12 @@ line_append s ss rest =
     append_assoc (key_bytes s.key) (s.value ++ (10 ∷ text_of ss)) rest
     ∙ ap (λ xs. key_bytes s.key ++ xs) (append_assoc s.value (10 ∷ text_of ss) rest)
 
-breaks_at : (before : List Slot) (due : Slot) (later : List Slot) (bs rest : List ℕ) → bs ≡ text_of before ++ rest → All InRange before → Broken due.key due.limit rest → Breaks (before ++ due ∷ later) bs
+breaks_at : (before : List Slot) (due : Slot) (later : List Slot) (bs rest : List ℕ) → bs ≡ text_of before ++ rest → AllByRecursion InRange before → Broken due.key due.limit rest → Breaks (before ++ due ∷ later) bs
 breaks_at [] due later bs rest e r broken = inl (subst (Broken due.key due.limit) (sym e) broken)
 breaks_at (s ∷ before) due later bs rest e r broken =
     inr (text_of before ++ rest, r.0, e ∙ line_append s before rest, breaks_at before due later (text_of before ++ rest) rest refl r.1 broken)
 
-breaks_past : (ss : List Slot) (bs rest : List ℕ) → bs ≡ text_of ss ++ rest → All InRange ss → 0 < length rest → Breaks ss bs
+breaks_past : (ss : List Slot) (bs rest : List ℕ) → bs ≡ text_of ss ++ rest → AllByRecursion InRange ss → 0 < length rest → Breaks ss bs
 breaks_past [] bs rest e r more = subst (λ (xs : List ℕ). 0 < length xs) (sym e) more
 breaks_past (s ∷ ss) bs rest e r more = inr (text_of ss ++ rest, r.0, e ∙ line_append s ss rest, breaks_past ss (text_of ss ++ rest) rest refl r.1 more)
 

@@ -14,7 +14,7 @@
 --   Whole ss bs              the text bs is just the lines ss, all in range
 --   Sized bs, Missized bs    a text has 1 to 4,096 bytes; or it has not
 use Rattle.std.specs.Prelude.{◌≡◌, ℕ, ◌+◌, ◌%◌, ◌<◌, ◌≤◌, Bool, true, false, ◌&&◌, ◌⊎◌, List, [], ◌∷◌, ◌++◌, length, nat_le, slice_index_or}
-use Rattle.std.specs.List.{AllByRecursion as All}
+use Rattle.std.specs.List.{AllByRecursion}
 use Rattle.task.specs.Ranges.{fits}
 use Rattle.task.specs.declared.ranges.Field as field
 use Rattle.text.specs.declared.fault.Fault.{Fault}
@@ -75,7 +75,7 @@ pub record Taken (k : Key) (bs value more : List ℕ) : Type 0 where
 
 pub record Took (ss : List Slot) (bs : List ℕ) (n : ℕ) (cs : List ℕ) (m : ℕ) : Type 0 where
   pub written : bs ≡ text_of ss ++ cs
-  pub ranged : All InRange ss
+  pub ranged : AllByRecursion InRange ss
   pub counted : m ≡ n + length ss
 
 abbrev pub Fails : Key → ℕ → List ℕ → ℕ → Fault → Type 0
@@ -108,7 +108,7 @@ Halts ss bs f = Stops ss bs 0 f ⊎ Overruns ss bs 0 f
 
 pub record Whole (ss : List Slot) (bs : List ℕ) : Type 0 where
   pub written : bs ≡ text_of ss
-  pub ranged : All InRange ss
+  pub ranged : AllByRecursion InRange ss
 
 abbrev pub Sized : List ℕ → Type 0
 Sized bs = (0 < length bs) × (length bs ≤ 4096)

@@ -15,7 +15,7 @@
 --   Means s bs v        and v is that value
 --   Lower v us          us has 24 places, of which those that are true lie below v
 use Rattle.std.specs.Prelude.{◌≡◌, ℕ, suc, ◌<◌, ◌≤◌, Bool, true, false, cond, List, [], ◌∷◌, ◌++◌, map, length, Some, None, codes, decimal, Option, slice_index_or}
-use Rattle.std.specs.List.{AllByRecursion as All}
+use Rattle.std.specs.List.{AllByRecursion}
 use Rattle.text.specs.declared.key.Sort as sorts
 use Rattle.text.specs.declared.key.Sort.{Sort}
 use Rattle.text.specs.declared.value.Kind.{Kind}
@@ -47,15 +47,15 @@ pub record Rises (P : ℕ → Type 0) (k : ℕ) (bs : List ℕ) : Type 0 where
   pub first : ℕ
   pub more : List ℕ
   pub rising : Rising k (first ∷ more)
-  pub small : All Small (first ∷ more)
-  pub all : All P (first ∷ more)
+  pub small : AllByRecursion Small (first ∷ more)
+  pub all : AllByRecursion P (first ∷ more)
   pub written : bs ≡ commas (first ∷ more)
 
 pub record Listed (P : ℕ → Type 0) (bs : List ℕ) : Type 0 where
   pub numbers : List ℕ
   pub rising : Rising 0 numbers
-  pub small : All Small numbers
-  pub all : All P numbers
+  pub small : AllByRecursion Small numbers
+  pub all : AllByRecursion P numbers
   pub written : bs ≡ listed numbers
 
 abbrev pub Begins : ℕ → Option (List ℕ) → List ℕ → Type 0

@@ -2,7 +2,7 @@
 ghost use Rattle.std.specs.Prelude.{◌≡◌, ◌≤◌, map, length, take, MatchResult};
 ghost use Rattle.engine.specs.Marks.{Fit};
 ghost use Rattle.engine.specs.Roster.{Rostered};
-ghost use Rattle.std.specs.List.{AllByRecursion as All};
+ghost use Rattle.std.specs.List.{AllByRecursion};
 ghost use Rattle.text.specs.CalendarText.{CalendarOf, CalendarReads, marks_in};
 ghost use Rattle.text.specs.PlatformText.{Refused};
 
@@ -44,7 +44,7 @@ fn marks_of(engines: &[Engine]) -> [Marks; ENGINES]
 
 /// The calendar of engines that are described, which are fit.
 fn make_calendar(engines: &[Engine]) -> Calendar
-    requires { (length engines.now ≤ 16) × ((Rostered (map (λ e. e.tag) engines.now)) × (All Fit (map marks_in engines.now))) }
+    requires { (length engines.now ≤ 16) × ((Rostered (map (λ e. e.tag) engines.now)) × (AllByRecursion Fit (map marks_in engines.now))) }
     ensures { CalendarOf engines.now result }
 {
     let tags = tags_of(engines);

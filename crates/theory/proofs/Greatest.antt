@@ -1,17 +1,17 @@
 -- The greatest value on a list and below a number.
 use Rattle.std.proofs.Common.{◌≡◌, ℕ, zero, suc, ◌+◌, ◌<◌, ◌≤◌, List, [], ◌∷◌, length, get_or, refl, ap, inl, inr, arith}
-use Rattle.std.specs.List.{AllByRecursion as All}
+use Rattle.std.specs.List.{AllByRecursion}
 use Rattle.std.proofs.lemmas.Bool.{cases_eq, cases_lt}
 use Rattle.theory.specs.Demand.{greatest, greatest_below, sum_to}
 
-pub greatest_mono : {X : Type 0} (P : X → Type 0) (f g : X → ℕ) → ((x : X) → P x → f x ≤ g x) → (xs : List X) → All P xs → greatest f xs ≤ greatest g xs
+pub greatest_mono : {X : Type 0} (P : X → Type 0) (f g : X → ℕ) → ((x : X) → P x → f x ≤ g x) → (xs : List X) → AllByRecursion P xs → greatest f xs ≤ greatest g xs
 greatest_mono P f g h [] a = omega arith
 greatest_mono P f g h (x ∷ xs) a =
     let rec = greatest_mono P f g h xs a.1 in
     let here = h x a.0 in
     omega arith
 
-pub greatest_none : {X : Type 0} (P : X → Type 0) (f : X → ℕ) → ((x : X) → P x → f x ≡ 0) → (xs : List X) → All P xs → greatest f xs ≡ 0
+pub greatest_none : {X : Type 0} (P : X → Type 0) (f : X → ℕ) → ((x : X) → P x → f x ≡ 0) → (xs : List X) → AllByRecursion P xs → greatest f xs ≡ 0
 greatest_none P f h [] a = refl
 greatest_none P f h (x ∷ xs) a =
     let rec = greatest_none P f h xs a.1 in
@@ -69,7 +69,7 @@ most_shift f g w d l h =
     let down = most_le g d (greatest_below f d + w) (λ v k. omega (arith, h v k, most_at f d v k)) in
     omega (arith, h u below)
 
-pub greatest_le : {X : Type 0} (P : X → Type 0) (f : X → ℕ) (m : ℕ) → ((x : X) → P x → f x ≤ m) → (xs : List X) → All P xs → greatest f xs ≤ m
+pub greatest_le : {X : Type 0} (P : X → Type 0) (f : X → ℕ) (m : ℕ) → ((x : X) → P x → f x ≤ m) → (xs : List X) → AllByRecursion P xs → greatest f xs ≤ m
 greatest_le P f m h [] a = omega arith
 greatest_le P f m h (x ∷ xs) a =
     let rec = greatest_le P f m h xs a.1 in

@@ -2,7 +2,7 @@
 use Rattle.std.proofs.Common.{◌≡◌, ℕ, zero, suc, ◌+◌, ◌-◌, ◌*◌, ◌<◌, ◌≤◌, max, ◌⊎◌, List, [], ◌∷◌, ap, ◌∙◌, inl, inr, div-mul-le_self, arith}
 use mathlib.Core.Path.{fun_ext}
 use native.Mathlib.Nat.{lt-div-mul-add}
-use Rattle.std.specs.List.{AllByRecursion as All}
+use Rattle.std.specs.List.{AllByRecursion}
 use Rattle.std.proofs.lemmas.List.Sums.{sum_by-cons}
 use Rattle.std.proofs.lemmas.Bool.{cases_eq}
 use Rattle.std.proofs.lemmas.Bool.Decides.{nat_tests}
@@ -72,7 +72,7 @@ module _ (pat : Pattern) (ok : WellFormed pat) where
   few_cuts n =
       let up = most_le (at_cut pat n) pat.deadline (over_cuts pat (at_cut pat n)) (λ u k. cut_le (pat.deadline - u) n u (omega arith)) in
       let first = most_at (at_cut pat n) pat.deadline 0 ok.some_time in
-      let others = greatest_le (All (FitsIn pat.deadline)) (λ b. greatest (λ i. at_cut pat n i.offset) b) (demand pat n)
+      let others = greatest_le (AllByRecursion (FitsIn pat.deadline)) (λ b. greatest (λ i. at_cut pat n i.offset) b) (demand pat n)
       (λ b ws. greatest_le (FitsIn pat.deadline) (λ i. at_cut pat n i.offset) (demand pat n)
       (λ i w. most_at (at_cut pat n) pat.deadline i.offset (omega (arith, w.opens, w.closes))) b ws)
       pat.branches ok.windows in

@@ -1,7 +1,7 @@
 -- A period more asks for one whole arrival more; so twice a common multiple of the periods settles every number of ticks.
 use Rattle.std.proofs.Common.{◌≡◌, ℕ, zero, suc, ◌+◌, ◌-◌, ◌*◌, ◌/◌, ◌%◌, ◌<◌, ◌≤◌, List, [], ◌∷◌, refl, ap, inl, inr, mul_comm, arith}
 use native.Mathlib.Nat.{div-add-mod}
-use Rattle.std.specs.List.{AllByRecursion as All}
+use Rattle.std.specs.List.{AllByRecursion}
 use Rattle.std.proofs.lemmas.List.Sums.{sum_by-cons}
 use Rattle.std.proofs.lemmas.Bool.{cases_lt}
 use Rattle.theory.specs.Pattern.{Pattern, WellFormed}
@@ -72,7 +72,7 @@ multiple_le zero t h e l = omega arith
 multiple_le (suc m) t h e l = omega arith
 
 -- h ticks more ask for no more than h ticks do alone
-all_more : (h : ℕ) → 0 < h → (pats : List Pattern) → All WellFormed pats → All (λ pat. Divides pat.period h) pats → (n : ℕ) → h ≤ n
+all_more : (h : ℕ) → 0 < h → (pats : List Pattern) → AllByRecursion WellFormed pats → AllByRecursion (λ pat. Divides pat.period h) pats → (n : ℕ) → h ≤ n
     → demand_of_all pats (n + h) ≤ demand_of_all pats n + demand_of_all pats h
 all_more h p [] ok d n l = omega arith
 all_more h p (pat ∷ pats) (o, ok) ((m, e), d) n l =
@@ -90,7 +90,7 @@ all_more h p (pat ∷ pats) (o, ok) ((m, e), d) n l =
     )
 
 -- no ticks ask nothing
-none_asks_nothing : (pats : List Pattern) → All WellFormed pats → demand_of_all pats 0 ≡ 0
+none_asks_nothing : (pats : List Pattern) → AllByRecursion WellFormed pats → demand_of_all pats 0 ≡ 0
 none_asks_nothing [] ok = refl
 none_asks_nothing (pat ∷ pats) (o, ok) =
     let rec = none_asks_nothing pats ok in
@@ -105,7 +105,7 @@ none_asks_nothing (pat ∷ pats) (o, ok) =
 
 -- twice any common multiple of the periods settles every number of ticks
 twice_settles_all :
-    (h : ℕ) → 0 < h → (ps : List Pattern) → All WellFormed ps → All (λ p. Divides p.period h) ps
+    (h : ℕ) → 0 < h → (ps : List Pattern) → AllByRecursion WellFormed ps → AllByRecursion (λ p. Divides p.period h) ps
     → (s : ℕ → ℕ) → ((n : ℕ) → s n + s h ≤ s (n + h))
     → ((n : ℕ) → 0 < n → n ≤ 2 * h → demand_of_all ps n ≤ s n) → (n : ℕ) → demand_of_all ps n ≤ s n
 twice_settles_all h p pats ok d s joins first n = go n n (omega arith)
@@ -124,7 +124,7 @@ twice_settles_all h p pats ok d s joins first n = go n n (omega arith)
     ]
 
 -- a period that divides a belt cycle fits a whole number of times
-all_divide : (ps : List Pattern) → All (λ p. 14400 % p.period ≡ 0) ps → All (λ p. Divides p.period 14400) ps
+all_divide : (ps : List Pattern) → AllByRecursion (λ p. 14400 % p.period ≡ 0) ps → AllByRecursion (λ p. Divides p.period 14400) ps
 all_divide [] d = tt
 all_divide (p ∷ ps) d = ((14400 / p.period, omega (arith, div-add-mod 14400 p.period, mul_comm p.period (14400 / p.period), d.0)), all_divide ps d.1)
 

@@ -1,6 +1,6 @@
 -- The closed form is the greatest demand_in.
 use Rattle.std.proofs.Common.{◌≡◌, ℕ, zero, suc, ◌+◌, ◌-◌, ◌<◌, ◌≤◌, List, [], ◌∷◌, length, get_or, sym, refl, ap, inl, inr, arith}
-use Rattle.std.specs.List.{AllByRecursion as All}
+use Rattle.std.specs.List.{AllByRecursion}
 use Rattle.std.proofs.lemmas.List.Sums.{sum_by-cons}
 use Rattle.std.proofs.ByRecursion.{All-get_or}
 use Rattle.std.proofs.lemmas.Bool.{cases_lt}
@@ -22,7 +22,7 @@ module _ (pat : Pattern) (ok : WellFormed pat) where
   part_past : (x y : ℕ) (a : Arrival) → a.branch < length pat.branches → a.time + pat.deadline ≤ x → part pat x y a ≡ 0
   part_past x y a k l =
       inner_past pat.deadline (x - a.time) (y - a.time) (get_or pat.branches a.branch [])
-      (All-get_or (All (FitsIn pat.deadline)) pat.branches a.branch [] k ok.windows) (omega arith)
+      (All-get_or (AllByRecursion (FitsIn pat.deadline)) pat.branches a.branch [] k ok.windows) (omega arith)
 
   -- arrivals from t on, at the beginning of the stretch or later
   chain_bound : (x y t : ℕ) (arrivals : List Arrival) → From pat t arrivals → demand_in pat arrivals x y ≤ chain pat (length arrivals) (y - t)
@@ -51,7 +51,7 @@ module _ (pat : Pattern) (ok : WellFormed pat) where
   ]
 
   -- m arrivals a period apart, from t on, each with its best branch, up to y
-  train : (m x y t : ℕ) → x ≤ t → (arrivals : List Arrival) × From pat t arrivals × All (λ a. a.time ≤ y) arrivals × (demand_in pat arrivals x y ≡ chain pat m (y - t))
+  train : (m x y t : ℕ) → x ≤ t → (arrivals : List Arrival) × From pat t arrivals × AllByRecursion (λ a. a.time ≤ y) arrivals × (demand_in pat arrivals x y ≡ chain pat m (y - t))
   train zero x y t l = ([], tt, tt, refl)
   train (suc m) x y t l = elim (cases_lt y t) [
     | inl past ↦ ([], tt, tt, sym (chain_none pat ok (suc m) (y - t) (omega arith)))

@@ -9,7 +9,7 @@
 --   demand_in p as x y    the ticks of all windows of the arrivals that lie between x and y
 --   Greatest p n d        d is the greatest of these over all arrivals and all stretches of n ticks
 use Rattle.std.specs.Prelude.{◌≡◌, ℕ, ◌+◌, ◌-◌, ◌<◌, ◌≤◌, cond, ◌&&◌, List, [], ◌∷◌, length, sum_by, nat_le, slice_index_or}
-use Rattle.std.specs.List.{AllByRecursion as All}
+use Rattle.std.specs.List.{AllByRecursion}
 
 pub record Window : Type 0 where
   pub offset : ℕ
@@ -29,7 +29,7 @@ pub record WellFormed (p : Pattern) : Type 0 where
   pub some_time : 1 ≤ p.deadline
   pub within_period : p.deadline ≤ p.period
   pub some_branch : 0 < length p.branches
-  pub windows : All (All (FitsIn p.deadline)) p.branches
+  pub windows : AllByRecursion (AllByRecursion (FitsIn p.deadline)) p.branches
 
 abbrev pub share : ℕ → ℕ → Window → ℕ
 share u y w = cond (nat_le u w.offset && nat_le w.deadline y) w.ticks 0

@@ -7,7 +7,7 @@
 --   DemandSettles       past the deadline, m periods more ask for m whole arrivals more, and m periods ask for at least m
 --   SettlesAll r        where all periods divide a belt cycle of 14,400 ticks and the supply of two stretches is no more than that of both in a row, r ticks settle every number of them
 use Rattle.std.specs.Prelude.{◌≡◌, ℕ, ◌+◌, ◌*◌, ◌%◌, ◌<◌, ◌≤◌, List}
-use Rattle.std.specs.List.{AllByRecursion as All}
+use Rattle.std.specs.List.{AllByRecursion}
 use Rattle.theory.specs.Pattern.{Pattern, WellFormed, Arrival, Arrivals, demand_in, Greatest}
 use Rattle.theory.specs.Demand.{demand, whole, demand_of_all, later, later_quick, demand_quick}
 
@@ -20,7 +20,7 @@ GreatestIsOne = (p : Pattern) (n d e : ℕ) → Greatest p n d → Greatest p n 
 abbrev pub DemandIsMet : Type 0
 DemandIsMet =
     (p : Pattern) → WellFormed p → (n x : ℕ) → p.deadline ≤ x
-    → (arrivals : List Arrival) × Arrivals p arrivals × All (λ a. a.time ≤ x + n) arrivals × (demand_in p arrivals x (x + n) ≡ demand p n)
+    → (arrivals : List Arrival) × Arrivals p arrivals × AllByRecursion (λ a. a.time ≤ x + n) arrivals × (demand_in p arrivals x (x + n) ≡ demand p n)
 
 abbrev pub DemandIsQuick : Type 0
 DemandIsQuick = (p : Pattern) → WellFormed p → ((y : ℕ) → later p y ≡ later_quick p y) × ((n : ℕ) → demand p n ≡ demand_quick p n)
@@ -29,7 +29,7 @@ abbrev pub DemandGrows : Type 0
 DemandGrows = (p : Pattern) → WellFormed p → (m n : ℕ) → m ≤ n → demand p m ≤ demand p n
 
 abbrev pub AllGrow : Type 0
-AllGrow = (ps : List Pattern) → All WellFormed ps → (m n : ℕ) → m ≤ n → demand_of_all ps m ≤ demand_of_all ps n
+AllGrow = (ps : List Pattern) → AllByRecursion WellFormed ps → (m n : ℕ) → m ≤ n → demand_of_all ps m ≤ demand_of_all ps n
 
 pub record Settles (p : Pattern) (m : ℕ) : Type 0 where
   pub later_on : (n : ℕ) → p.deadline ≤ n → demand p (n + m * p.period) ≡ demand p n + m * whole p
@@ -40,6 +40,6 @@ DemandSettles = (p : Pattern) → WellFormed p → (m : ℕ) → Settles p m
 
 abbrev pub SettlesAll : ℕ → Type 0
 SettlesAll r =
-    (ps : List Pattern) → All WellFormed ps → All (λ p. 14400 % p.period ≡ 0) ps
+    (ps : List Pattern) → AllByRecursion WellFormed ps → AllByRecursion (λ p. 14400 % p.period ≡ 0) ps
     → (s : ℕ → ℕ) → ((a b : ℕ) → s a + s b ≤ s (a + b))
     → ((n : ℕ) → 0 < n → n ≤ r → demand_of_all ps n ≤ s n) → (n : ℕ) → demand_of_all ps n ≤ s n

@@ -1,5 +1,5 @@
 use Rattle.std.proofs.Common.{◌≡◌, ℕ, ◌-◌, Bool, List, [], ◌∷◌, map, length, take, sym, refl, ap, ◌∙◌, subst, arith, length-take}
-use Rattle.std.specs.List.{AllByRecursion as All}
+use Rattle.std.specs.List.{AllByRecursion}
 use Rattle.std.proofs.lemmas.List.{length-map}
 use Rattle.engine.specs.declared.marks.Marks.{Marks}
 use Rattle.engine.specs.declared.tags.Tags.{Tags}
@@ -34,7 +34,7 @@ unreachable-requires-in_default-new c =
     let tags = c.in-Some.ensures ∙ front (length es) c.tags_of-tags.result (map (λ (e : Engine). e.tag) es) c.tags_of-tags.ensures in
     c.in_default-new.ensures (record {
       many = ap length marks ∙ length-map es marks_in ∙ sym (length-map es (λ (e : Engine). e.tag)) ∙ ap length (sym tags) ∙ tags_long c.in-Some.roll;
-      fit = subst (All Fit) (sym marks) c.requires.1.1;
+      fit = subst (AllByRecursion Fit) (sym marks) c.requires.1.1;
     })
 
 pub returns : goal.returns

@@ -1,5 +1,5 @@
 use Rattle.std.proofs.Common.{◌≡◌, ℕ, ◌-◌, ◌≤◌, List, map, length, take, sym, ap, subst, arith, length-take}
-use Rattle.std.specs.List.{AllByRecursion as All}
+use Rattle.std.specs.List.{AllByRecursion}
 use Rattle.engine.specs.Marks.{Fit}
 use Rattle.engine.specs.Roster.{Rostered}
 use Rattle.text.specs.declared.platform_text.Engine.{Engine}
@@ -13,7 +13,7 @@ front : (p : Platform) → take p.count p.engines ≡ take (p.count - 0) p.engin
 front p = let z : p.count ≡ p.count - 0 = omega arith in ap (λ k. take k p.engines) z
 
 Fitting : List Engine → Type 0
-Fitting es = (length es ≤ 16) × (Rostered (map (λ (e : Engine). e.tag) es) × All Fit (map marks_in es))
+Fitting es = (length es ≤ 16) × (Rostered (map (λ (e : Engine). e.tag) es) × AllByRecursion Fit (map marks_in es))
 
 fitting : (text : List ℕ) (p : Platform) → Reads text p → Fitting (take (p.count - 0) p.engines)
 unfolding Fitting

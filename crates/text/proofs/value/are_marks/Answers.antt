@@ -1,5 +1,5 @@
 use Rattle.std.proofs.Common.{subst, inl, inr}
-use Rattle.std.specs.List.{AllByRecursion as All}
+use Rattle.std.specs.List.{AllByRecursion}
 use Rattle.std.proofs.ByRecursion.{All-more, All-get_or}
 use Rattle.std.proofs.lemmas.List.{take_all}
 use Rattle.std.proofs.lemmas.Bool.{false≢true, ltb-true, lt-ltb}
@@ -24,5 +24,5 @@ loop-byte-preserved c =
 
 pub returns : goal.returns
 returns c =
-    let bits = subst (All Bit) (take_all c.loop-byte.byte-index c.args.bytes.now c.loop-byte-test.false) c.loop-byte.invariant in
+    let bits = subst (AllByRecursion Bit) (take_all c.loop-byte.byte-index c.args.bytes.now c.loop-byte-test.false) c.loop-byte.invariant in
     (λ e. marked_from c.args.bytes.now bits (ltb-true 0 _ e), λ m. lt-ltb 0 _ (marked_some _ _ m))
