@@ -3,7 +3,7 @@
 --   cut_at c k              the k-th cut of the tables c
 --   stair ends most n y     the greatest of the first n values of most whose end is at most y, or 0
 --   Claims p c              the tables c say what the pattern p asks
-use Rattle.std.specs.Prelude.{◌≡◌, List, [], cond, ℕ, ◌+◌, ◌≤◌, leb, get_or}
+use Rattle.std.specs.Prelude.{◌≡◌, ℕ, ◌+◌, ◌≤◌, cond, List, [], nat_le, slice_index, slice_index_or}
 use Rattle.claim.specs.declared.claim.Claim.{Claim}
 use Rattle.claim.specs.declared.claim.Cut.{Cut}
 use Rattle.theory.specs.Demand.{at_cut, best, demand, greatest_below, whole}
@@ -13,10 +13,10 @@ abbrev pub no_cut : Cut
 no_cut = record { «from» = 0; most = [] }
 
 abbrev pub cut_at : Claim → ℕ → Cut
-cut_at c k = get_or c.cuts k no_cut
+cut_at c k = slice_index_or c.cuts k no_cut
 
 abbrev pub stair : List ℕ → List ℕ → ℕ → ℕ → ℕ
-stair ends most n y = greatest_below (λ j. cond (leb (get_or ends j 0) y) (get_or most j 0) 0) n
+stair ends most n y = greatest_below (λ j. cond (nat_le (slice_index ends j) y) (slice_index most j) 0) n
 
 pub record Claims (p : Pattern) (c : Claim) : Type 0 where
   pub period : c.period ≡ p.period

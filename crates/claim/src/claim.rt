@@ -1,5 +1,5 @@
 //! What a part asks of its engine, as tables.
-ghost use Rattle.std.specs.Prelude.{get_or, length, ◌≡◌, ℕ, ◌≤◌};
+ghost use Rattle.std.specs.Prelude.{◌≡◌, ◌≤◌, length};
 
 use task::node::{NODES, Ticks};
 

@@ -1,5 +1,5 @@
 //! All that the seating program prints.
-ghost use Rattle.std.specs.Prelude.{◌≤◌, length, IfOk, string_bytes};
+ghost use Rattle.std.specs.Prelude.{IfOk, string_bytes};
 ghost use Rattle.listing.specs.Listing.{Answered, Lists};
 ghost use Rattle.std.specs.Option.{option_map};
 

@@ -1,5 +1,5 @@
 //! An engine that may be tried, with its load.
-ghost use Rattle.std.specs.Prelude.{◌≡◌, IsSomeAnd, Some, refl};
+ghost use Rattle.std.specs.Prelude.{Some, refl};
 ghost use Rattle.order.specs.Fullest.{ranking};
 ghost use Rattle.std.specs.Cmp.Rules.{comparing};
 ghost use Rattle.std.proofs.Common.{rules};

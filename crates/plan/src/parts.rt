@@ -1,5 +1,5 @@
 //! The parts of a plan.
-ghost use Rattle.std.specs.Prelude.{◌≡◌, ◌<◌, false, ◌&&◌, List, if◌then◌else◌, Some, None, slice_index_or};
+ghost use Rattle.std.specs.Prelude.{◌≡◌, ◌<◌, false, ◌&&◌, if◌then◌else◌, Some, None, slice_index_or};
 ghost use Rattle.plan.specs.Part.{part_of, tagged, task_at, tasks_in};
 ghost use Rattle.plan.specs.Plan.{nodes_of};
 ghost use Rattle.task.specs.Graph.{at};

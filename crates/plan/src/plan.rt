@@ -1,5 +1,5 @@
 //! A job under one of its possible choices.
-ghost use Rattle.std.specs.Prelude.{◌≡◌, ℕ, ◌+◌, ◌<◌, ◌≤◌, true, false, length, take, slice_index, slice_index_or};
+ghost use Rattle.std.specs.Prelude.{◌≡◌, ℕ, ◌+◌, ◌≤◌, true, false, length, take, slice_index, slice_index_or};
 ghost use Rattle.task.specs.Graph.{at};
 ghost use Rattle.task.specs.Node.{is_sub_task, ticks};
 

@@ -1,5 +1,4 @@
 //! The same slack to each level.
-ghost use Rattle.std.specs.Prelude.{◌≡◌};
 ghost use Rattle.slack.specs.Even.{even};
 ghost use Rattle.slack.specs.EvenLaws.{even_lawful};
 

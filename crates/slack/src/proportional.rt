@@ -1,5 +1,4 @@
 //! Slack in proportion to work.
-ghost use Rattle.std.specs.Prelude.{◌≡◌};
 ghost use Rattle.slack.specs.Proportional.{proportional};
 ghost use Rattle.slack.specs.ProportionalLaws.{proportional_lawful};
 

@@ -1,5 +1,5 @@
 //! Which choices are possible.
-ghost use Rattle.std.specs.Prelude.{◌≡◌, ℕ, ◌<◌, Decides, MatchOption};
+ghost use Rattle.std.specs.Prelude.{ℕ, ◌<◌, Decides, MatchOption};
 ghost use Rattle.task.specs.declared.node.Numbering.TheVariants.{Choice};
 ghost use Rattle.task.specs.Flaws.{graph};
 ghost use Rattle.task.specs.Picks.{numbers};
