@@ -53,6 +53,13 @@ impl<T: Copy, const N: usize> Few<T, N> {
         &self.places[..self.len]
     }
 
+    /// How many items there are.
+    pub fn len(&self) -> usize
+        ensures { result ≡ length (items self.now) }
+    {
+        self.as_slice().len()
+    }
+
     /// Puts an item behind the others; where there is no place left, it stays out.
     pub fn push(&mut self, item: T) -> Result<(), Full>
         ensures room { IsOk result ↔ (length (items self.old) < N) }
