@@ -5,7 +5,7 @@ ghost use Rattle.slack.specs.EvenLaws.{even_lawful};
 use crate::rule::{Position, SlackRule};
 
 /// A sub-task gets its head and, of the ticks that the longest path leaves free, an equal part for each level.
-#[derive(Clone, Copy)]
+#[derive(Debug, Clone, Copy, PartialEq, Eq)]
 pub struct Even;
 
 impl SlackRule for Even {
@@ -13,11 +13,14 @@ impl SlackRule for Even {
 
     ghost laws = { λ _. even_lawful };
 
+    #[tactic(auto, using(crate::specs::Tested::bounds_if_tested))]
     fn local_deadline(&self, at: Position) -> u32 {
-        if !at.is_bounded() || at.tail == 0 {
-            at.deadline
-        } else {
-            at.head + (at.deadline - at.span) * at.level / at.depth
-        }
+        at.within(|at| {
+            if at.tail == 0 {
+                at.deadline
+            } else {
+                at.head + (at.deadline - at.span) * at.level / at.depth
+            }
+        })
     }
 }

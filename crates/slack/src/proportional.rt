@@ -5,7 +5,7 @@ ghost use Rattle.slack.specs.ProportionalLaws.{proportional_lawful};
 use crate::rule::{Position, SlackRule};
 
 /// A sub-task gets the part of the deadline that its head has of the longest path through it.
-#[derive(Clone, Copy)]
+#[derive(Debug, Clone, Copy, PartialEq, Eq)]
 pub struct Proportional;
 
 impl SlackRule for Proportional {
@@ -14,10 +14,6 @@ impl SlackRule for Proportional {
     ghost laws = { λ _. proportional_lawful };
 
     fn local_deadline(&self, at: Position) -> u32 {
-        if at.is_bounded() {
-            at.deadline * at.head / (at.head + at.tail)
-        } else {
-            at.deadline
-        }
+        at.within(|at| at.deadline * at.head / (at.head + at.tail))
     }
 }

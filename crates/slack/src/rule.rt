@@ -1,16 +1,16 @@
 //! What a slack rule answers, and from what.
-ghost use Rattle.std.specs.Prelude.{◌≡◌, ℕ};
+ghost use Rattle.std.specs.Prelude.{◌≡◌, ℕ, true, false};
 ghost use Rattle.slack.specs.declared.rule.Position.{Position};
 ghost use Rattle.slack.specs.Rule.{Lawful, bounded};
 
-/// The longest deadline of a job, in ticks.
+/// The longest deadline of a job, in ticks. It stands here too, since this crate knows no other.
 const LONGEST: u32 = 14_400;
 
-/// The most sub-tasks of a job.
+/// The most sub-tasks of a job. It stands here too, since this crate knows no other.
 const MOST: u32 = 24;
 
 /// Where a sub-task stands in its concrete graph, in ticks and sub-tasks.
-#[derive(Clone, Copy)]
+#[derive(Debug, Clone, Copy, PartialEq, Eq)]
 pub struct Position {
     /// The deadline of the job.
     pub deadline: u32,
@@ -39,6 +39,19 @@ impl Position {
             && 1 <= self.level
             && self.level <= self.depth
             && self.depth <= MOST
+    }
+
+    /// What a rule gives inside the bounds; outside them, the deadline of the job.
+    pub(crate) fn within<F: FnOnce(Position) -> u32>(self, rule: F) -> u32
+        requires { bounded self ≡ true → F.pre rule self }
+        ensures inside { bounded self ≡ true → F.post rule self result }
+        ensures outside { bounded self ≡ false → result ≡ self.deadline }
+    {
+        if self.is_bounded() {
+            rule(self)
+        } else {
+            self.deadline
+        }
     }
 }
 
