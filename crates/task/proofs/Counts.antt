@@ -1,9 +1,35 @@
--- A loop that counts the numbers that pass a test: a turn at one that passes, and at one that does not.
-use Rattle.std.proofs.Common.{◌≡◌, ℕ, ◌+◌, ◌≤◌, Bool, true, false, add-one, arith}
+-- How many items at the front of a list pass a test, and how many of its places.
+use Rattle.std.proofs.Common.{◌≡◌, ℕ, zero, suc, ◌≤◌, Bool, false, List, length, get_or, take, min, refl, ap, sym, ◌∙◌, inl, inr, add-one, arith}
+use Rattle.std.specs.List.{count_by}
+use Rattle.std.proofs.lemmas.Bool.{cases_Bool, cases_lt}
+use Rattle.std.proofs.lemmas.List.{get_or_past, take_all}
+use Rattle.std.proofs.lemmas.List.Sums.{count_by_more_yes, count_by_more_no}
 use Rattle.task.specs.Graph.{count_below}
 
-pub count_yes : (p : ℕ → Bool) (n was will : ℕ) → (was ≡ count_below p n) × (was ≤ n) → true ≡ p n → will ≡ was + 1 → (will ≡ count_below p (n + 1)) × (will ≤ n + 1)
-count_yes p n was will kept yes' is = rw (add-one n, ← yes') (omega arith, omega arith)
+-- what stands past the end, d, does not pass
+pub counted : {X : Type 0} (p : X → Bool) (d : X) → p d ≡ false → (xs : List X) (n : ℕ) → count_by p (take n xs) ≡ count_below (λ i. p (get_or xs i d)) n
+counted p d out xs zero = refl
+counted p d out xs (suc n) =
+    let rec = counted p d out xs n in
+    elim (cases_lt n (length xs)) [
+      | inl below ↦ elim (cases_Bool (p (get_or xs n d))) [
+        | inl yes' ↦ let more = count_by_more_yes p xs n d below yes' in rw yes' (omega (arith, rec, more, ap (λ k. count_by p (take k xs)) (add-one n)))
+        | inr no' ↦ let more = count_by_more_no p xs n d below no' in rw no' (omega (arith, rec, more, ap (λ k. count_by p (take k xs)) (add-one n)))
+      ]
+      | inr past ↦
+          let is = ap p (get_or_past xs n d past) ∙ out in
+          let same = take_all (suc n) xs (omega arith) ∙ sym (take_all n xs past) in
+          rw is (omega (arith, rec, ap (λ ys. count_by p ys) same))
+    ]
 
-pub count_no : (p : ℕ → Bool) (n was will : ℕ) → (was ≡ count_below p n) × (was ≤ n) → false ≡ p n → will ≡ was → (will ≡ count_below p (n + 1)) × (will ≤ n + 1)
-count_no p n was will kept no' is = rw (add-one n, ← no') (omega arith, omega arith)
+pub counted_all : {X : Type 0} (p : X → Bool) (d : X) → p d ≡ false → (xs : List X) → count_by p xs ≡ count_below (λ i. p (get_or xs i d)) (length xs)
+counted_all p d out xs = ap (λ ys. count_by p ys) (sym (take_all (length xs) xs (omega arith))) ∙ counted p d out xs (length xs)
+
+-- the same, where the front ends with the list
+pub counted_within : {X : Type 0} (p : X → Bool) (d : X) → p d ≡ false → (xs : List X) (n m : ℕ) → length xs ≤ m → count_by p (take (min n m) xs) ≡ count_below (λ i. p (get_or xs i d)) n
+counted_within p d out xs n m long = elim (cases_lt n m) [
+  | inl below ↦ let e : min n m ≡ n = omega arith in ap (λ k. count_by p (take k xs)) e ∙ counted p d out xs n
+  | inr past ↦
+      let same = take_all (min n m) xs (omega arith) ∙ sym (take_all n xs (omega arith)) in
+      ap (λ ys. count_by p ys) same ∙ counted p d out xs n
+]

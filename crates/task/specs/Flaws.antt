@@ -4,7 +4,8 @@
 --   InRange n t d ns      so do all numbers and edges of a job of the nodes ns
 --   MadeOf n t d ns j     j is the job of these
 --   Flawed n t d ns f     they make none, and f says why: out of range, the first fork at fault, or too many forks
-use Rattle.std.specs.Prelude.{◌≡◌, ℕ, ◌<◌, true, false, List, length, take}
+use Rattle.std.specs.Prelude.{◌≡◌, ℕ, ◌<◌, true, false, List, length}
+use Rattle.few.specs.Few.{items}
 use Rattle.task.specs.declared.node.Node.{Node}
 use Rattle.task.specs.declared.job.Job.{Job}
 use Rattle.task.specs.declared.ranges.Field.TheVariants.{Number, Period, Deadline, Count}
@@ -15,7 +16,7 @@ use Rattle.task.specs.Nodes.{fork_fits, few_forks, NumbersFit, ForksFit}
 use Rattle.task.specs.Ranges.{fits}
 
 abbrev pub graph : Job → List Node
-graph j = take j.count j.nodes
+graph j = items j.nodes
 
 abbrev pub HeaderFits : (number period deadline count : ℕ) → Type 0
 HeaderFits number period deadline count =

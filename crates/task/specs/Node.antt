@@ -4,8 +4,7 @@
 --   is_sub_task n, is_alternative n, is_conditional n, is_fork n    what it is
 --   covers m n     numbers of the kind m, choices or branches, pick an edge out of n
 --   missing        what stands where there is no node
---   none, blank    no nodes; the node that fills the table after the last one
-use Rattle.std.specs.Prelude.{ℕ, Bool, true, false, not, List, [], replicate}
+use Rattle.std.specs.Prelude.{ℕ, Bool, true, false, not, List, []}
 use Rattle.task.specs.declared.node.Node.{Node}
 use Rattle.task.specs.declared.node.Node.TheVariants.{SubTask, Alternative, Conditional}
 use Rattle.task.specs.declared.node.Numbering.{Numbering}
@@ -41,12 +40,6 @@ is_fork n = not (is_sub_task n)
 
 abbrev pub missing : Node
 missing = SubTask 0 0 []
-
-abbrev pub none : List Bool
-none = replicate 24 false
-
-abbrev pub blank : Node
-blank = SubTask 0 1 none
 
 abbrev pub covers : Numbering → Node → Bool
 covers Choice n = is_alternative n

@@ -5,10 +5,9 @@
 --   NumbersFit ns     the numbers of every node lie in their ranges
 --   ForksFit ns       every fork is right
 --   Sound ns          the nodes of a job
---   BlankFrom n ns    from n on the table is blank
 use Rattle.std.specs.Prelude.{◌≡◌, ℕ, ◌<◌, ◌≤◌, Bool, true, false, cond, ◌&&◌, List, length, nat_le, slice_index_or}
 use Rattle.task.specs.declared.node.Node.{Node}
-use Rattle.task.specs.Node.{blank, is_fork, is_alternative, is_conditional}
+use Rattle.task.specs.Node.{is_fork, is_alternative, is_conditional}
 use Rattle.task.specs.Ranges.{numbers_fit}
 use Rattle.task.specs.Graph.{at, Upward, count_below, ins, outs}
 
@@ -28,9 +27,6 @@ NumbersFit ns = (v : ℕ) → v < length ns → numbers_fit (at ns v) ≡ true
 
 abbrev pub ForksFit : List Node → Type 0
 ForksFit ns = (v : ℕ) → fork_fits ns v ≡ true
-
-abbrev pub BlankFrom : ℕ → List Node → Type 0
-BlankFrom n ns = (v : ℕ) → n ≤ v → v < length ns → at ns v ≡ blank
 
 pub record Sound (ns : List Node) : Type 0 where
   pub some : 1 ≤ length ns

@@ -12,7 +12,7 @@ pub type Ticks = u32;
 pub type After = [bool; NODES];
 
 /// A node and the lower nodes that it comes after.
-#[derive(Clone, Copy)]
+#[derive(Debug, Clone, Copy, PartialEq, Eq)]
 pub enum Node {
     /// Work for an engine of the tag, for at most so many ticks.
     SubTask {
@@ -43,23 +43,22 @@ impl Node {
         ensures { result.now ≡ after self.now }
     {
         match self {
-            Node::SubTask { after, .. } => after,
-            Node::Alternative { after } => after,
-            Node::Conditional { after } => after,
+            Node::SubTask { after, .. }
+            | Node::Alternative { after }
+            | Node::Conditional { after } => after,
         }
     }
 
     /// Whether it comes after the node `u`.
     pub(crate) fn comes_after(&self, u: usize) -> bool
-        requires { u < 24 }
         ensures { result ≡ slice_index_or (after self.now) u false }
     {
-        self.after()[u]
+        self.after().get(u).copied().unwrap_or(false)
     }
 }
 
 /// What a number picks edges of: a choice of the alternatives, a branch number of the conditionals.
-#[derive(Clone, Copy)]
+#[derive(Debug, Clone, Copy, PartialEq, Eq)]
 pub enum Numbering {
     Choice,
     Branch,
@@ -70,10 +69,10 @@ impl Numbering {
     pub(crate) fn is_over(self, node: &Node) -> bool
         ensures { result ≡ covers self node.now }
     {
-        match (self, node) {
-            (Numbering::Choice, Node::Alternative { .. }) => true,
-            (Numbering::Branch, Node::Conditional { .. }) => true,
-            _ => false,
-        }
+        matches!(
+            (self, node),
+            (Numbering::Choice, Node::Alternative { .. })
+                | (Numbering::Branch, Node::Conditional { .. })
+        )
     }
 }

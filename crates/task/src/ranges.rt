@@ -8,7 +8,7 @@ use crate::node::Ticks;
 pub const BELT_CYCLE: Ticks = 14_400;
 
 /// A number of a job, with what its range depends on.
-#[derive(Clone, Copy)]
+#[derive(Debug, Clone, Copy, PartialEq, Eq)]
 pub enum Field {
     Number(u32),
     Period(Ticks),
@@ -24,12 +24,12 @@ impl Field {
         ensures { result ≡ fits self }
     {
         match self {
-            Field::Number(number) => 1 <= number && number <= 65_535,
+            Field::Number(number) => (1..=65_535).contains(&number),
             Field::Period(period) => 1 <= period && BELT_CYCLE % period == 0,
-            Field::Deadline { period, deadline } => 1 <= deadline && deadline <= period,
-            Field::Count(count) => 1 <= count && count <= 24,
+            Field::Deadline { period, deadline } => (1..=period).contains(&deadline),
+            Field::Count(count) => (1..=24).contains(&count),
             Field::Tag(tag) => tag <= 7,
-            Field::Work(ticks) => 1 <= ticks && ticks <= BELT_CYCLE,
+            Field::Work(ticks) => (1..=BELT_CYCLE).contains(&ticks),
         }
     }
 }

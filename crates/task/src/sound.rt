@@ -1,17 +1,21 @@
 //! Making a job of its numbers and nodes.
-ghost use Rattle.std.specs.Prelude.{◌≡◌, ℕ, ◌<◌, ◌≤◌, true, false, ◌&&◌, length, take, Decides, MatchOption, MatchResult};
+ghost use Rattle.std.specs.Prelude.{◌≡◌, ℕ, ◌<◌, ◌≤◌, true, false, ◌&&◌, length, Decides, MatchOption, MatchResult};
 ghost use Rattle.task.specs.Flaws.{Flawed, HeaderFits, MadeOf, graph};
-ghost use Rattle.task.specs.Graph.{Upward};
-ghost use Rattle.task.specs.Nodes.{Below, BlankFrom, ForksFit, NumbersFit, Sound, few_forks, fork_fits};
+ghost use Rattle.task.specs.Graph.{Upward, at};
+ghost use Rattle.task.specs.Node.{after};
+ghost use Rattle.task.specs.Nodes.{Below, ForksFit, NumbersFit, Sound, few_forks, fork_fits};
 ghost use Rattle.task.specs.Ranges.{numbers_fit};
 
 use crate::graph::{edges_in, forks, rank};
 use crate::job::Job;
 use crate::node::{After, BLANK, NODES, Node, Numbering, Ticks};
 use crate::ranges::Field;
+use few::few::Few;
+use std::error::Error;
+use std::fmt;
 
 /// Why numbers and nodes make no job.
-#[derive(Clone, Copy)]
+#[derive(Debug, Clone, Copy, PartialEq, Eq)]
 pub enum Flaw {
     /// A number or an edge is out of range.
     Range,
@@ -21,15 +25,22 @@ pub enum Flaw {
     Forks,
 }
 
+impl fmt::Display for Flaw {
+    fn fmt<W: fmt::Write>(&self, f: &mut fmt::Formatter<W>) -> fmt::Result {
+        match self {
+            Flaw::Range => write!(f, "a number or an edge is out of range"),
+            Flaw::Fork(node) => write!(f, "the edges of the fork {node} are too few or too many"),
+            Flaw::Forks => write!(f, "there are too many forks"),
+        }
+    }
+}
+
+impl Error for Flaw {}
+
 fn is_below(after: &After, v: usize) -> bool
     ensures { Decides result (Below v after.now) }
 {
-    for u in 0..NODES {
-        if after[u] && v <= u {
-            return false;
-        }
-    }
-    true
+    after.iter().enumerate().all(|(u, edge)| !*edge || u < v)
 }
 
 fn are_numbers_fit(node: &Node) -> bool
@@ -42,15 +53,18 @@ fn are_numbers_fit(node: &Node) -> bool
     }
 }
 
+fn is_node_fit(nodes: &[Node], v: usize) -> bool
+    ensures { Decides result ((numbers_fit (at nodes.now v) ≡ true) × Below v (after (at nodes.now v))) }
+{
+    nodes
+        .get(v)
+        .is_some_and(|node| are_numbers_fit(node) && is_below(node.after(), v))
+}
+
 fn are_nodes_fit(nodes: &[Node]) -> bool
     ensures { Decides result (NumbersFit nodes.now × Upward nodes.now) }
 {
-    for v in 0..nodes.len() {
-        if !are_numbers_fit(&nodes[v]) || !is_below(nodes[v].after(), v) {
-            return false;
-        }
-    }
-    true
+    (0..nodes.len()).all(|v| is_node_fit(nodes, v))
 }
 
 fn is_header_fit(number: u32, period: Ticks, deadline: Ticks, count: usize) -> bool
@@ -59,52 +73,30 @@ fn is_header_fit(number: u32, period: Ticks, deadline: Ticks, count: usize) -> b
     Field::Number(number).is_fit()
         && Field::Period(period).is_fit()
         && (Field::Deadline { period, deadline }).is_fit()
-        && 1 <= count
-        && count <= NODES
+        && (1..=NODES).contains(&count)
 }
 
 fn is_fork_fit(nodes: &[Node], v: usize) -> bool
-    requires { (v < length nodes.now) × (length nodes.now ≤ 24) }
     ensures { result ≡ fork_fits nodes.now v }
 {
-    match nodes[v] {
-        Node::SubTask { .. } => true,
-        _ => {
-            let out = rank(nodes, v, nodes.len());
-            1 <= edges_in(nodes, v) && 2 <= out && out <= 3
-        }
+    match nodes.get(v) {
+        Some(Node::Alternative { .. } | Node::Conditional { .. }) => {
+            1 <= edges_in(nodes, v) && (2..=3).contains(&rank(nodes, v, nodes.len()))
+        },
+        _ => true,
     }
 }
 
 fn first_wrong_fork(nodes: &[Node]) -> Option<usize>
-    requires { length nodes.now ≤ 24 }
-    ensures { MatchOption result (ForksFit nodes.now) (λ v. (fork_fits nodes.now v ≡ false) × ((u : ℕ) → u < v → fork_fits nodes.now u ≡ true)) }
+    ensures { MatchOption result ((v : ℕ) → v < length nodes.now → fork_fits nodes.now v ≡ true) (λ v. (v < length nodes.now) × (fork_fits nodes.now v ≡ false) × ((u : ℕ) → u < v → fork_fits nodes.now u ≡ true)) }
 {
-    for v in 0..nodes.len() {
-        if !is_fork_fit(nodes, v) {
-            return Some(v);
-        }
-    }
-    None
+    (0..nodes.len()).find(|v| !is_fork_fit(nodes, *v))
 }
 
 fn are_forks_few(nodes: &[Node]) -> bool
-    requires { length nodes.now ≤ 24 }
     ensures { result ≡ few_forks nodes.now }
 {
     forks(nodes, Numbering::Choice) <= 4 && forks(nodes, Numbering::Branch) <= 4
-}
-
-fn table(nodes: &[Node]) -> [Node; NODES]
-    requires { length nodes.now ≤ 24 }
-    ensures nodes { take (length nodes.now) result ≡ nodes.now }
-    ensures blank { BlankFrom (length nodes.now) result }
-{
-    let mut table = [BLANK; NODES];
-    for v in 0..nodes.len() {
-        table[v] = nodes[v];
-    }
-    table
 }
 
 impl Job {
@@ -113,7 +105,7 @@ impl Job {
         ensures nodes { result.now ≡ graph self.now }
         ensures sound { Sound result.now }
     {
-        &self.nodes[0..self.count]
+        self.nodes.as_slice()
     }
 
     /// The job of these numbers and nodes.
@@ -129,12 +121,14 @@ impl Job {
         if !are_forks_few(nodes) {
             return Err(Flaw::Forks);
         }
+        let Some(nodes) = Few::from_slice(BLANK, nodes) else {
+            return Err(Flaw::Range);
+        };
         Ok(Job {
             number,
             period,
             deadline,
-            count: nodes.len(),
-            nodes: table(nodes),
+            nodes,
         })
     }
 }

@@ -1,10 +1,13 @@
-use Rattle.task.specs.Graph.{edge}
-use Rattle.task.proofs.Counts.{count_yes, count_no}
+use Rattle.std.proofs.Common.{◌≡◌, Bool, false, length, get_or, take, min, refl, ◌∙◌, rules, arith}
+use Rattle.std.specs.List.{count_by}
+use Rattle.task.specs.declared.node.Node.{Node}
+use Rattle.task.specs.Node.{after, missing}
+use Rattle.task.proofs.Counts.{counted_within}
 use Rattle.task.proofs.graph.rank.Goals as goal
-use Rattle.task.proofs.graph.rank.Goals.{then-comes_after, else-comes_after}
 
-pub loop-w-preserved : goal.loop-w-preserved
-loop-w-preserved c = elim c.if-comes_after.branch [
-  | then-comes_after w ↦ count_yes (λ w. edge c.args.nodes.now c.args.u w) c.loop-w.w _ _ c.loop-w.invariant w.if-comes_after.ensures w.edges-is
-  | else-comes_after w ↦ count_no (λ w. edge c.args.nodes.now c.args.u w) c.loop-w.w _ _ c.loop-w.invariant w.if-comes_after.ensures w.edges-is
-]
+pub returns : goal.returns
+returns c =
+    let nodes = c.args.nodes.now in
+    let p : Node → Bool = λ n. get_or (after n) c.args.u false in
+    let is : c.count.result ≡ count_by p (take (min c.args.v (length nodes)) nodes) = search rules in
+    is ∙ counted_within p missing refl nodes c.args.v (length nodes) (omega arith)

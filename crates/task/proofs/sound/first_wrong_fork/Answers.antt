@@ -1,13 +1,12 @@
-use Rattle.std.proofs.Common.{true, cond, ◌&&◌, leb, ap, inl, inr, arith}
-use Rattle.std.proofs.lemmas.List.{get_or_past}
-use Rattle.std.proofs.lemmas.Bool.{cases_lt}
-use Rattle.task.specs.Graph.{ins, outs}
-use Rattle.task.specs.Node.{is_fork, missing}
+use Rattle.std.proofs.Common.{◌≡◌, length, true, false, rules}
+use borrow.Author.Tests.{tests}
+use Rattle.std.proofs.lemmas.Iterator.{first_from_Range}
+use Rattle.few.proofs.Below.{first_below}
+use Rattle.task.specs.Nodes.{fork_fits}
 use Rattle.task.proofs.sound.first_wrong_fork.Goals as goal
 
 pub returns : goal.returns
-returns c v = elim (cases_lt v c.loop-v.v) [
-  | inl below ↦ c.loop-v.invariant v below
-  | inr past ↦ ap (λ n. cond (is_fork n) (leb 1 (ins c.args.nodes.now v) && (leb 2 (outs c.args.nodes.now v) && leb (outs c.args.nodes.now v) 3)) true)
-      (get_or_past c.args.nodes.now v missing (omega arith))
-]
+returns c =
+    let ns = c.args.nodes.now in
+    let found = first_from_Range _ _ _ _ (λ v. fork_fits ns v ≡ false) (λ v. fork_fits ns v ≡ true) c.find.ensures.ran (λ x q k. search (rules, tests)) (λ x q k. search (rules, tests)) in
+    first_below c.find.result (λ v. fork_fits ns v ≡ true) (λ v. fork_fits ns v ≡ false) (length ns) found

@@ -1,7 +1,8 @@
-use Rattle.std.proofs.Common.{◌≡◌, ℕ, Bool, false, ◌&&◌, List, get_or, sym, ◌∙◌, subst}
+use Rattle.std.proofs.Common.{◌≡◌, ℕ, Bool, false, ◌&&◌, List, get_or, sym, ◌∙◌}
 use Rattle.std.proofs.lemmas.Bool.{and_parts, and_from}
 use Rattle.task.specs.declared.node.Node.{Node}
 use Rattle.task.specs.Concrete.{Led, Member, IsConcrete}
+use Rattle.task.specs.Flaws.{graph}
 use Rattle.task.specs.Picks.{by_choice}
 use Rattle.task.specs.Tables.{Tells, leads}
 use Rattle.task.proofs.Leading.{told_same}
@@ -21,5 +22,4 @@ made ns choice kept edges members same told from =
 
 pub returns : goal.returns
 returns c =
-    subst (λ ns. IsConcrete ns c.args.choice (record { members = c.led-members.result; edges = c.among.result })) c.graph-nodes.ensures.nodes
-    (made c.graph-nodes.result.now c.args.choice c.kept_by_choice-kept.result c.among.result c.led-members.result c.kept_by_choice-kept.ensures.same c.led-members.ensures c.among.ensures)
+    made (graph c.args.self.now) c.args.choice c.kept_by_choice-kept.result c.among.result c.led-members.result c.kept_by_choice-kept.ensures.same c.led-members.ensures c.among.ensures

@@ -1,7 +1,7 @@
 use Rattle.std.proofs.Common.{◌≡◌, ℕ, ◌<◌, ◌≤◌, false, length, get_or, Decides}
 use Rattle.task.specs.Concrete.{Led}
 use Rattle.task.specs.Tables.{leads}
-use Rattle.task.proofs.concrete.led.Given as goal
+use Rattle.task.proofs.job.Job.led.Given as goal
 
 abbrev pub invariant-loop-v : goal.invariant-loop-v
 invariant-loop-v l =

@@ -1,10 +1,10 @@
-use Rattle.std.proofs.Common.{◌≡◌, ℕ, suc, ◌-◌, ◌/◌, ◌%◌, ◌<◌, ◌≤◌, List, length, get_or, set, sym, ap, ◌∙◌, inl, inr, mul_comm, arith}
+use Rattle.std.proofs.Common.{◌≡◌, ℕ, suc, ◌-◌, ◌/◌, ◌%◌, ◌<◌, ◌≤◌, List, length, get_or, set, sym, ap, ◌∙◌, subst, inl, inr, mul_comm, arith}
 use native.Mathlib.Nat.{div-div-eq-div-mul}
 use Rattle.std.proofs.lemmas.List.{length-set, get_or-set_same, get_or-set_other}
 use Rattle.std.proofs.lemmas.Bool.{cases_eq}
 use Rattle.task.specs.Picks.{product, ways, pick}
 use Rattle.task.proofs.Products.{product_step}
-use Rattle.task.proofs.picks.picks.Goals as goal
+use Rattle.task.proofs.job.Job.ranks.Goals as goal
 
 -- what is left of the number k when the ways from u on are divided out, and the digit at u
 rest_turn : (f : ℕ → ℕ) (k len u was way : ℕ) → 0 < u → u ≤ len → was ≡ k / product f u (len - u) → way ≡ f (u - 1) → was / way ≡ k / product f (u - 1) (len - (u - 1))
@@ -27,15 +27,17 @@ places_turn pick was len u x some room kept is w from in' = elim (cases_eq w (u 
 pub loop-u-preserved : goal.loop-u-preserved
 loop-u-preserved c =
     let m = c.args.numbering in
-    let ns = c.args.nodes.now in
+    let ns = c.graph-nodes.result.now in
     let k = c.args.number in
     let u = c.loop-u.u in
     let inv = c.loop-u.invariant in (
-      length-set c.loop-u.picks (u - 1) (c.loop-u.rest % c.ways-ways.result) ∙ inv.0,
+      length-set c.loop-u.ranks (u - 1) (c.loop-u.rest % c.ways-ways.result) ∙ inv.0,
       rest_turn (ways m ns) k (length ns) u _ _ c.loop-u-test.true c.loop-u.auto.u inv.1 c.ways-ways.ensures,
-      places_turn (pick m ns k) c.loop-u.picks (length ns) u _ c.loop-u-test.true (omega (arith, c.loop-u.auto.u, c.requires.few, inv.0)) inv.2
+      places_turn (pick m ns k) c.loop-u.ranks (length ns) u _ c.loop-u-test.true (omega (arith, c.loop-u.auto.u, c.graph-nodes.ensures.sound.few, inv.0)) inv.2
           (digit_turn (ways m ns) k (length ns) u _ _ c.loop-u-test.true inv.1 c.ways-ways.ensures),
     )
 
 pub returns : goal.returns
-returns c u inside = c.loop-u.invariant.2 u (omega arith) inside
+returns c =
+    subst (λ ns. (u : ℕ) → u < length ns → get_or c.loop-u.ranks u 0 ≡ pick c.args.numbering ns c.args.number u) c.graph-nodes.ensures.nodes
+    (λ u inside. c.loop-u.invariant.2 u (omega arith) inside)
