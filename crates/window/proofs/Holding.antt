@@ -1,5 +1,5 @@
 -- Under a lawful slack rule the windows of a possible choice hold: each sub-task has room for its work, and none opens before one on a path to it is due.
-use Rattle.std.proofs.Common.{◌≡◌, ℕ, zero, suc, ◌+◌, ◌<◌, ◌≤◌, Bool, true, false, cond, ◌&&◌, leb, ◌⊎◌, List, get_or, sym, refl, ap, inl, inr, arith}
+use Rattle.std.proofs.Common.{◌≡◌, ℕ, zero, suc, ◌+◌, ◌<◌, ◌≤◌, Bool, true, false, cond, ◌&&◌, leb, ◌⊎◌, List, sym, refl, ap, inl, inr, arith}
 use Rattle.std.proofs.lemmas.Bool.{and_parts, leb-true, cases_Bool, cases_eq, true≢false, false≢true}
 use Rattle.task.specs.declared.node.Node.{Node}
 use Rattle.task.specs.declared.node.Node.TheVariants.{SubTask, Alternative, Conditional}
@@ -12,10 +12,10 @@ use Rattle.task.proofs.Leading.{led_inside}
 use Rattle.slack.specs.declared.rule.Position.{Position}
 use Rattle.slack.specs.Rule.{Bounds, Lawful}
 use Rattle.window.specs.declared.layout.Lengths.{Lengths}
-use Rattle.window.specs.declared.layout.Windows.{Windows}
-use Rattle.window.specs.Lengths.{IsLengths}
+use Rattle.window.specs.declared.layout.Window.{Window}
+use Rattle.window.specs.Lengths.{IsLengths, head, tail, level}
 use Rattle.window.specs.Path.{work, counts, Path, stay, step, Possible}
-use Rattle.window.specs.Windows.{position, Before, IsWindows, WindowsHold}
+use Rattle.window.specs.Windows.{position, deadline_of, offset_of, Before, IsWindows, WindowsHold}
 use Rattle.window.proofs.Longest.{rises, member_inside}
 use Rattle.window.proofs.Paths.{path_end, path_front}
 
@@ -34,15 +34,6 @@ one_each : (b : Bool) → cond b 1 0 ≤ 1
 one_each true = omega arith
 one_each false = omega arith
 
-abbrev head : Lengths → ℕ → ℕ
-head l v = get_or l.head v 0
-
-abbrev tail : Lengths → ℕ → ℕ
-tail l v = get_or l.tail v 0
-
-abbrev level : Lengths → ℕ → ℕ
-level l v = get_or l.level v 0
-
 module _ (ns : List Node) (sound : Sound ns) (c : ℕ) where
   path_rises : {w : ℕ → ℕ} {u v s : ℕ} → Path ns c w u v s → u ≤ v
   path_rises (stay m) = omega arith
@@ -55,19 +46,19 @@ module _ (ns : List Node) (sound : Sound ns) (c : ℕ) where
 
   module _ (d : ℕ) (l : Lengths) (is : IsLengths ns c l) (possible : Possible ns c d) (cyclic : d ≤ 14400) where
     head_edge : (u v : ℕ) → Before ns c u v → head l u + work ns v ≤ head l v
-    head_edge u v b = let (a, p) = (is.head u b.0).attained in (is.head v (next b.0 b.1)).bound a _ (step p b.1)
+    head_edge u v b = let (a, p) = (is.heads u b.0).attained in (is.heads v (next b.0 b.1)).bound a _ (step p b.1)
 
     level_edge : (u v : ℕ) → Before ns c u v → level l u + counts ns v ≤ level l v
-    level_edge u v b = let (a, p) = (is.level u b.0).attained in (is.level v (next b.0 b.1)).bound a _ (step p b.1)
+    level_edge u v b = let (a, p) = (is.levels u b.0).attained in (is.levels v (next b.0 b.1)).bound a _ (step p b.1)
 
     tail_edge : (u v : ℕ) → Before ns c u v → work ns v + tail l v ≤ tail l u
     tail_edge u v b =
-        let (x, p) = (is.tail v (next b.0 b.1)).attained in
-        let most = (is.tail u b.0).bound x _ (path_front b.0 b.1 p) in
+        let (x, p) = (is.tails v (next b.0 b.1)).attained in
+        let most = (is.tails u b.0).bound x _ (path_front b.0 b.1 p) in
         omega arith
 
     own_work : (v : ℕ) → Member ns c v → work ns v ≤ head l v
-    own_work v m = (is.head v m).bound v _ (stay m)
+    own_work v m = (is.heads v m).bound v _ (stay m)
 
     through : {v x r : ℕ} → Path ns c (work ns) v x r → head l v + r ≤ head l x + work ns v
     through (stay m) = omega arith
@@ -77,33 +68,33 @@ module _ (ns : List Node) (sound : Sound ns) (c : ℕ) where
     bounds v m s =
         let work' = some_work (at ns v) (sound.ranged v (led_inside (rises ns sound c) m)) s in
         let one : counts ns v ≡ 1 = ap (λ b. cond b 1 0) s in
-        let (x, p) = (is.tail v m).attained in
+        let (x, p) = (is.tails v m).attained in
         let (a, ma, ea) = is.span.attained in
-        let (a', pa) = (is.head a ma).attained in
+        let (a', pa) = (is.heads a ma).attained in
         let (b, mb, eb) = is.depth.attained in
-        let (b', pb) = (is.level b mb).attained in
+        let (b', pb) = (is.levels b mb).attained in
         record {
           worked = omega (arith, own_work v m);
           spanned = omega (arith, through p, is.span.bound x (path_end p));
           timely = omega (arith, possible a' a _ pa);
           cyclic = cyclic;
-          levelled = omega (arith, (is.level v m).bound v _ (stay m));
+          levelled = omega (arith, (is.levels v m).bound v _ (stay m));
           reached = is.depth.bound v m;
           shallow = omega (arith, few_steps pb, member_inside ns sound c b mb);
         }
 
-    module _ (local : Position → ℕ) (lawful : Lawful local) (w : Windows) (laid : IsWindows ns c d local l w) where
+    module _ (local : Position → ℕ) (lawful : Lawful local) (w : List Window) (laid : IsWindows ns c d local l w) where
       -- an offset is 0, or the local deadline of a sub-task that stands before
       Source : ℕ → Type 0
       Source v =
-          (get_or w.offset v 0 ≡ 0)
-          ⊎ ((x : ℕ) × Member ns c x × (is_sub_task (at ns x) ≡ true) × (get_or w.offset v 0 ≡ get_or w.deadline x 0)
+          (offset_of w v ≡ 0)
+          ⊎ ((x : ℕ) × Member ns c x × (is_sub_task (at ns x) ≡ true) × (offset_of w v ≡ deadline_of w x)
           × (head l x + work ns v ≤ head l v) × (work ns v + tail l v ≤ tail l x) × (level l x + counts ns v ≤ level l v))
 
       source : (k v : ℕ) → v < k → Member ns c v → Source v
       unfolding Source
       source zero v below m = absurd (omega arith)
-      source (suc k) v below m = elim (laid.offset v m).attained [
+      source (suc k) v below m = elim (laid.offsets v m).attained [
         | inl none ↦ inl none.1
         | inr some ↦
             let u = some.0 in
@@ -128,7 +119,7 @@ module _ (ns : List Node) (sound : Sound ns) (c : ℕ) where
             ]
       ]
 
-      roomy : (v : ℕ) → Member ns c v → is_sub_task (at ns v) ≡ true → get_or w.offset v 0 + work ns v ≤ get_or w.deadline v 0
+      roomy : (v : ℕ) → Member ns c v → is_sub_task (at ns v) ≡ true → offset_of w v + work ns v ≤ deadline_of w v
       unfolding Source
       roomy v m s =
           let own = laid.sub_task v m s in
@@ -143,18 +134,18 @@ module _ (ns : List Node) (sound : Sound ns) (c : ℕ) where
                 omega (arith, q.3)
           ]
 
-      opens_by_end : (v : ℕ) → Member ns c v → get_or w.offset v 0 ≤ get_or w.deadline v 0
+      opens_by_end : (v : ℕ) → Member ns c v → offset_of w v ≤ deadline_of w v
       opens_by_end v m = elim (cases_Bool (is_sub_task (at ns v))) [
         | inl s ↦ omega (arith, roomy v m s)
         | inr f ↦ omega (arith, laid.fork v m f)
       ]
 
-      ordered : {u v s : ℕ} → Path ns c (work ns) u v s → u < v → get_or w.deadline u 0 ≤ get_or w.offset v 0
+      ordered : {u v s : ℕ} → Path ns c (work ns) u v s → u < v → deadline_of w u ≤ offset_of w v
       ordered (stay m) below = absurd (omega arith)
       ordered (step {u} {v} {x} p k) below =
-          let last = (laid.offset x (next (path_end p) k)).bound v (path_end p, k) in
+          let last = (laid.offsets x (next (path_end p) k)).bound v (path_end p, k) in
           elim (cases_eq u v) [
-            | inl e ↦ omega (arith, ap (λ a. get_or w.deadline a 0) e)
+            | inl e ↦ omega (arith, ap (λ a. deadline_of w a) e)
             | inr ne ↦ omega (arith, ordered p (omega (arith, path_rises p)), opens_by_end v (path_end p))
           ]
 

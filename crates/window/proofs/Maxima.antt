@@ -1,19 +1,33 @@
 -- The greatest of some values: a turn of the loop that finds it, and what it is.
-use Rattle.std.proofs.Common.{◌≡◌, ℕ, zero, suc, ◌+◌, ◌<◌, ◌≤◌, max, Bool, true, false, cond, ◌⊎◌, sym, refl, ap, ◌∙◌, inl, inr, add-one, arith}
+use Rattle.std.proofs.Common.{◌≡◌, ℕ, zero, suc, ◌<◌, ◌≤◌, max, Bool, true, false, cond, ◌⊎◌, sym, refl, ap, ◌∙◌, inl, inr, add-one, List, length, get_or, take, arith}
+use Rattle.std.specs.List.{fold, zip}
+use Rattle.std.proofs.lemmas.List.{take_more, take_all}
+use Rattle.std.proofs.lemmas.List.Sums.{fold_push}
+use Rattle.std.proofs.lemmas.Slice.Zip.{get_or-zip, length-zip}
 use Rattle.std.proofs.lemmas.Bool.{cases_Bool, cases_eq, cases_lt}
 use Rattle.window.specs.Greatest.{greatest}
 
-pub greatest_none : (p : ℕ → Bool) (f : ℕ → ℕ) → greatest p f 0 ≡ 0
-unfolding greatest
-greatest_none p f = refl
+abbrev pub more : ℕ → Bool × ℕ → ℕ
+more most p = cond p.0 (max p.1 most) most
 
-pub greatest_yes : (p : ℕ → Bool) (f : ℕ → ℕ) (n was will : ℕ) → was ≡ greatest p f n → p n ≡ true → will ≡ max (f n) was → will ≡ greatest p f (n + 1)
-unfolding greatest
-greatest_yes p f n was will is yes' now' = rw (add-one n, yes') (omega arith)
+more_is : (b : Bool) (x m : ℕ) → cond b (max x m) m ≡ max m (cond b x 0)
+more_is true x m = omega arith
+more_is false x m = omega arith
 
-pub greatest_no : (p : ℕ → Bool) (f : ℕ → ℕ) (n was will : ℕ) → was ≡ greatest p f n → p n ≡ false → will ≡ was → will ≡ greatest p f (n + 1)
+-- the greatest so far, of each place and its value in turn
+greatest_front : (ps : List Bool) (vs : List ℕ) (n : ℕ) → n ≤ length ps → n ≤ length vs → fold more 0 (take n (zip ps vs)) ≡ greatest (λ u. get_or ps u false) (λ u. get_or vs u 0) n
 unfolding greatest
-greatest_no p f n was will is no' now' = rw (add-one n, no') (omega arith)
+greatest_front ps vs zero long longer = refl
+greatest_front ps vs (suc n) long longer =
+    let rec = greatest_front ps vs n (omega arith) (omega arith) in
+    let here = get_or-zip ps vs n (false, 0) (omega arith) (omega arith) in
+    let turn = ap (λ l. fold more 0 l) (sym (ap (λ k. take k (zip ps vs)) (add-one n)) ∙ take_more (zip ps vs) n (false, 0) (omega (arith, length-zip ps vs))) ∙ fold_push more 0 (take n (zip ps vs)) _ in
+    turn ∙ ap (λ p. more (fold more 0 (take n (zip ps vs))) p) here ∙ more_is (get_or ps n false) (get_or vs n 0) _ ∙ ap (λ m. max m (cond (get_or ps n false) (get_or vs n 0) 0)) rec
+
+-- the greatest of them all
+pub greatest_of : (ps : List Bool) (vs : List ℕ) (n : ℕ) → length ps ≡ n → length vs ≡ n → fold more 0 (zip ps vs) ≡ greatest (λ u. get_or ps u false) (λ u. get_or vs u 0) n
+greatest_of ps vs n long longer =
+    ap (λ l. fold more 0 l) (sym (take_all n (zip ps vs) (omega (arith, length-zip ps vs)))) ∙ greatest_front ps vs n (omega arith) (omega arith)
 
 pub greatest_at : (p : ℕ → Bool) (f : ℕ → ℕ) (n u : ℕ) → u < n → p u ≡ true → f u ≤ greatest p f n
 unfolding greatest

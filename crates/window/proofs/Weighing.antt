@@ -34,10 +34,10 @@ module _ (ns : List Node) (sound : Sound ns) (c : ℕ) (g : Concrete) (is : IsCo
   root : Member ns c 0
   root = first {v = 0} (omega (arith, sound.some)) (λ u. elim (cases_Bool (edge ns u 0)) [ inl y ↦ absurd (omega (arith, sound.upward u 0 y)) | inr n ↦ n ])
 
-  pub largest_of : (table : List ℕ) (G : ℕ) → G ≡ greatest (λ u. get_or g.members u false) (λ u. get_or table u 0) 24 → LargestOf ns c table G
-  largest_of table G e = record {
-    bound = λ v m. omega (arith, greatest_at (λ u. get_or g.members u false) (λ u. get_or table u 0) 24 v (member_inside ns sound c v m) ((is.nodes v).1 m));
-    attained = elim (greatest_found (λ u. get_or g.members u false) (λ u. get_or table u 0) 24) [
+  pub largest_of : (value : ℕ → ℕ) (G : ℕ) → G ≡ greatest (λ u. get_or g.members u false) value 24 → LargestOf ns c value G
+  largest_of value G e = record {
+    bound = λ v m. omega (arith, greatest_at (λ u. get_or g.members u false) value 24 v (member_inside ns sound c v m) ((is.nodes v).1 m));
+    attained = elim (greatest_found (λ u. get_or g.members u false) value 24) [
       | inl none ↦ absurd (true≢false (sym ((is.nodes 0).1 root) ∙ none.0 0 (omega arith)))
       | inr some ↦ (some.0, (is.nodes some.0).0 some.2, some.3 ∙ sym e)
     ];

@@ -4,7 +4,7 @@
 --   Light weights         no weight is above 14,400
 --   WeightsOf m ns members ws    the table ws has what each member adds to a path, 0 at the others
 --   Settled R ws t v      the table t has at v its weight and the greatest value at the nodes that are R to it
---   Laid ns g L os ls v   at a member v, os has the greatest of ls over its predecessors, and ls has L at a sub-task, the same as os at a fork; else both have 0
+--   Laid ns g L o e v     at a member v, o is the greatest of e over its predecessors, and e is L at a sub-task, the same as o at a fork; else both are 0
 use Rattle.std.specs.Prelude.{◌≡◌, ℕ, ◌+◌, ◌<◌, ◌≤◌, Bool, true, false, cond, List, length, MatchBool, slice_index, slice_index_or}
 use Rattle.task.specs.declared.node.Node.{Node}
 use Rattle.task.specs.declared.tables.Concrete.{Concrete}
@@ -32,9 +32,8 @@ WeightsOf m ns members ws =
 abbrev pub Settled : (ℕ → ℕ → Bool) → List ℕ → List ℕ → ℕ → Type 0
 Settled R weights table v = slice_index table v ≡ slice_index weights v + greatest (λ u. R u v) (λ u. slice_index table u) 24
 
-abbrev pub Laid : List Node → Concrete → (ℕ → ℕ) → List ℕ → List ℕ → ℕ → Type 0
-Laid ns g L offsets ends v =
+abbrev pub Laid : List Node → Concrete → (ℕ → ℕ) → (ℕ → ℕ) → (ℕ → ℕ) → ℕ → Type 0
+Laid ns g L o e v =
     MatchBool (slice_index_or g.members v false)
-    ((slice_index offsets v ≡ greatest (λ u. leads g.edges u v) (λ u. slice_index ends u) 24)
-    × (slice_index ends v ≡ cond (is_sub_task (at ns v)) (L v) (slice_index offsets v)))
-    ((slice_index offsets v ≡ 0) × (slice_index ends v ≡ 0))
+    ((o v ≡ greatest (λ u. leads g.edges u v) e 24) × (e v ≡ cond (is_sub_task (at ns v)) (L v) (o v)))
+    ((o v ≡ 0) × (e v ≡ 0))

@@ -8,11 +8,7 @@ use task::node::NODES;
 pub fn greatest(places: &[bool; NODES], values: &[u32; NODES]) -> u32
     ensures { result ≡ greatest (λ u. slice_index_or places.now u false) (λ u. slice_index values.now u) 24 }
 {
-    let mut most = 0;
-    for u in 0..NODES {
-        if places[u] {
-            most = values[u].max(most);
-        }
-    }
-    most
+    places.iter().zip(values).fold(0, |most, (place, value)| {
+        if *place { (*value).max(most) } else { most }
+    })
 }

@@ -1,5 +1,5 @@
 //! The longest paths of a concrete graph.
-ghost use Rattle.std.specs.Prelude.{◌≡◌, ℕ, ◌-◌, ◌<◌, false, slice_index, slice_index_or};
+ghost use Rattle.std.specs.Prelude.{◌≡◌, ℕ, ◌<◌, false, slice_index, slice_index_or};
 ghost use Rattle.task.specs.Flaws.{graph};
 ghost use Rattle.task.specs.Nodes.{Sound};
 ghost use Rattle.task.specs.Tables.{leads};
@@ -8,7 +8,8 @@ ghost use Rattle.window.specs.Path.{weigh};
 ghost use Rattle.window.specs.Recurrences.{Ascends, Light, Settled, WeightsOf};
 
 use crate::greatest::greatest;
-use crate::layout::{Lengths, Measure};
+use crate::layout::{Lengths, Longest, Measure};
+use std::array;
 use task::job::Job;
 use task::node::{NODES, Node};
 use task::tables::Edges;
@@ -30,13 +31,10 @@ impl Measure {
         requires { Sound nodes.now }
         ensures { WeightsOf self nodes.now members.now result }
     {
-        let mut weights = [0; NODES];
-        for v in 0..nodes.len() {
-            if members[v] {
-                weights[v] = self.weigh(&nodes[v]);
-            }
-        }
-        weights
+        array::from_fn(|v| match nodes.get(v) {
+            Some(node) if members[v] => self.weigh(node),
+            _ => 0,
+        })
     }
 }
 
@@ -46,6 +44,7 @@ pub(crate) fn longest_to(edges: &Edges, weights: &[u32; NODES]) -> [u32; NODES]
     ensures { (v : ℕ) → Settled (leads edges.now) weights.now result v }
 {
     let mut to = [0; NODES];
+    // Each place rests on the places before it.
     for v in 0..NODES {
         to[v] = weights[v] + greatest(&edges[v], &to);
     }
@@ -57,11 +56,7 @@ fn column(edges: &Edges, v: usize) -> [bool; NODES]
     requires { v < 24 }
     ensures { (w : ℕ) → slice_index_or result w false ≡ leads edges.now v w }
 {
-    let mut column = [false; NODES];
-    for w in 0..NODES {
-        column[w] = edges[w][v];
-    }
-    column
+    array::from_fn(|w| edges[w][v])
 }
 
 /// The greatest sum of weights on a path that begins at each node.
@@ -70,20 +65,11 @@ fn longest_from(edges: &Edges, weights: &[u32; NODES]) -> [u32; NODES]
     ensures { (v : ℕ) → Settled (λ w u. leads edges.now u w) weights.now result v }
 {
     let mut from = [0; NODES];
+    // Each place rests on the places after it.
     for v in (0..NODES).rev() {
         from[v] = weights[v] + greatest(&column(edges, v), &from);
     }
     from
-}
-
-fn minus(all: &[u32; NODES], part: &[u32; NODES]) -> [u32; NODES]
-    ensures { (v : ℕ) → slice_index result v ≡ slice_index all.now v - slice_index part.now v }
-{
-    let mut rest = [0; NODES];
-    for v in 0..NODES {
-        rest[v] = all[v].saturating_sub(part[v]);
-    }
-    rest
 }
 
 impl Lengths {
@@ -96,16 +82,16 @@ impl Lengths {
         let work = Measure::Work.weights(nodes, &concrete.members);
         let count = Measure::Count.weights(nodes, &concrete.members);
         let head = longest_to(&concrete.edges, &work);
-        let tail = minus(&longest_from(&concrete.edges, &work), &work);
+        let from = longest_from(&concrete.edges, &work);
         let level = longest_to(&concrete.edges, &count);
-        let span = greatest(&concrete.members, &head);
-        let depth = greatest(&concrete.members, &level);
         Lengths {
-            head,
-            tail,
-            level,
-            span,
-            depth,
+            nodes: array::from_fn(|v| Longest {
+                head: head[v],
+                tail: from[v].saturating_sub(work[v]),
+                level: level[v],
+            }),
+            span: greatest(&concrete.members, &head),
+            depth: greatest(&concrete.members, &level),
         }
     }
 }

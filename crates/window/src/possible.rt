@@ -19,10 +19,9 @@ pub fn is_possible(job: &Job, choice: u32) -> bool
 pub fn first_possible(job: &Job) -> Option<u32>
     ensures { MatchOption result ((c : ℕ) → c < numbers Choice (graph job.now) → Possible (graph job.now) c job.now.deadline → ⊥) (FirstPossible (graph job.now) job.now.deadline) }
 {
-    for choice in 0..job.choices() {
-        if is_possible(job, choice) {
-            return Some(choice);
-        }
-    }
-    None
+    (0..job.choices()).find(
+        |choice| -> bool
+            ensures { Decides result (Possible (graph job.entry.now) choice.now job.entry.now.deadline) }
+        { is_possible(job, *choice) },
+    )
 }

@@ -5,11 +5,12 @@ ghost use Rattle.task.specs.Node.{is_sub_task};
 ghost use Rattle.window.specs.Lengths.{IsLengths};
 ghost use Rattle.window.specs.Path.{Possible};
 ghost use Rattle.window.specs.Recurrences.{Ascends, Laid, Within};
-ghost use Rattle.window.specs.Windows.{IsWindows, WindowsHold, position};
+ghost use Rattle.window.specs.Windows.{IsWindows, WindowsHold, deadline_of, offset_of, position};
 
 use crate::greatest::greatest;
-use crate::layout::{Layout, Lengths, Windows};
+use crate::layout::{Layout, Lengths, Window};
 use slack::rule::{Position, SlackRule};
+use std::array;
 use task::job::Job;
 use task::node::{NODES, Node, Ticks};
 use task::tables::Concrete;
@@ -24,9 +25,9 @@ impl Lengths {
             deadline,
             span: self.span,
             depth: self.depth,
-            head: self.head[v],
-            tail: self.tail[v],
-            level: self.level[v],
+            head: self.nodes[v].head,
+            tail: self.nodes[v].tail,
+            level: self.nodes[v].level,
         }
     }
 }
@@ -47,23 +48,24 @@ fn windows<R: SlackRule>(
     lengths: &Lengths,
     deadline: Ticks,
     rule: &R,
-) -> Windows
+) -> [Window; NODES]
     requires { (length nodes.now ≤ 24) × ((Ascends concrete.now.edges) × (Within (length nodes.now) concrete.now.members)) }
-    ensures { (v : ℕ) → Laid nodes.now concrete.now (λ u. R.SlackRule.local rule.now (position deadline lengths.now u)) result.offset result.deadline v }
+    ensures { (v : ℕ) → Laid nodes.now concrete.now (λ u. R.SlackRule.local rule.now (position deadline lengths.now u)) (offset_of result) (deadline_of result) v }
 {
-    let mut offset = [0; NODES];
+    let mut opens = [0; NODES];
     let mut ends = [0; NODES];
+    // Each window rests on the ends of those before it.
     for v in 0..nodes.len() {
         if concrete.members[v] {
-            let opens = greatest(&concrete.edges[v], &ends);
-            offset[v] = opens;
-            ends[v] = due(&nodes[v], lengths.position(deadline, v), opens, rule);
+            let offset = greatest(&concrete.edges[v], &ends);
+            opens[v] = offset;
+            ends[v] = due(&nodes[v], lengths.position(deadline, v), offset, rule);
         }
     }
-    Windows {
-        offset,
-        deadline: ends,
-    }
+    array::from_fn(|v| Window {
+        offset: opens[v],
+        deadline: ends[v],
+    })
 }
 
 impl Layout {

@@ -1,13 +1,15 @@
-use Rattle.std.proofs.Common.{false, get_or, sym, ◌∙◌}
-use Rattle.window.proofs.Maxima.{greatest_none, greatest_yes, greatest_no}
+use Rattle.std.proofs.Common.{◌≡◌, ◌∙◌, rules}
+use borrow.Author.Tests.{tests}
+use Rattle.std.specs.List.{fold, zip}
+use Rattle.std.proofs.lemmas.Iterator.{YieldsList-from_slice, YieldsList-from_zip}
+use Rattle.std.proofs.lemmas.Iterator.Consumers.{fold_from_yields_List}
+use Rattle.window.proofs.Maxima.{greatest_of, more}
 use Rattle.window.proofs.greatest.greatest.Goals as goal
-use Rattle.window.proofs.greatest.greatest.Goals.{then-places-u, else-places-u}
 
-pub loop-u-preserved : goal.loop-u-preserved
-loop-u-preserved c = elim c.if-places-u.branch [
-  | then-places-u w ↦ greatest_yes (λ u. get_or c.args.places.now u false) (λ u. get_or c.args.values.now u 0) c.loop-u.u _ _ c.loop-u.invariant w.if-places-u.true (w.most-is ∙ w.max-most.ensures)
-  | else-places-u w ↦ greatest_no (λ u. get_or c.args.places.now u false) (λ u. get_or c.args.values.now u 0) c.loop-u.u _ _ c.loop-u.invariant w.if-places-u.false w.most-is
-]
-
-pub loop-u-init : goal.loop-u-init
-loop-u-init c = sym (greatest_none (λ u. get_or c.args.places.now u false) (λ u. get_or c.args.values.now u 0))
+pub returns : goal.returns
+returns c =
+    let ps = c.args.places.now in
+    let vs = c.args.values.now in
+    let is : c.fold.result ≡ fold more 0 (zip ps vs) =
+    fold_from_yields_List _ more 0 c.fold.result c.fold.ensures.ran (YieldsList-from_zip (YieldsList-from_slice ps (search rules)) (YieldsList-from_slice vs (search rules))) (λ a x b q k. search (rules, tests)) in
+    is ∙ greatest_of ps vs 24 c.told-places c.told-values

@@ -1,11 +1,10 @@
-use Rattle.std.proofs.Common.{false, sym, ◌∙◌, inl, inr, arith}
-use Rattle.std.proofs.lemmas.List.{get_or_past}
-use Rattle.std.proofs.lemmas.Bool.{cases_lt}
-use Rattle.task.proofs.Places.{no_row}
+use Rattle.std.proofs.Common.{false, sym, rules}
+use Rattle.few.proofs.Filled.{filled_with}
+use Rattle.task.specs.Tables.{leads}
+use Rattle.task.proofs.Places.{none_past}
 use Rattle.window.proofs.lengths.column.Goals as goal
 
 pub returns : goal.returns
-returns c w = elim (cases_lt w 24) [
-  | inl below ↦ c.loop-w.invariant.1 w (omega arith)
-  | inr past ↦ get_or_past c.loop-w.column w false (omega (arith, c.loop-w.invariant.0)) ∙ sym (no_row c.args.edges.now c.args.v w (omega (arith, c.told-edges)))
-]
+returns c w =
+    let edges = c.args.edges.now in
+    filled_with c.from_fn.ensures.items (λ i. leads edges c.args.v i) (λ i y f short k. search rules) w false (λ past. sym (none_past edges c.told-edges c.args.v w past))

@@ -6,7 +6,7 @@ use Rattle.task.specs.Flaws.{graph}
 use Rattle.task.specs.Nodes.{Sound}
 use Rattle.task.proofs.Leading.{led_inside}
 use Rattle.window.specs.Recurrences.{Laid}
-use Rattle.window.specs.Windows.{position}
+use Rattle.window.specs.Windows.{deadline_of, offset_of, position}
 use Rattle.window.proofs.Holding.{windows_hold}
 use Rattle.window.proofs.Laying.{laid_windows}
 use Rattle.window.proofs.Longest.{ascends, rises}
@@ -44,7 +44,7 @@ returns g c =
     let local = g.R.SlackRule.local c.args.rule.now in
     let l = c.of-lengths.result in
     let w = c.windows-windows.result in
-    let laid = subst (λ (a : List Node). (v : ℕ) → Laid a c.concrete-concrete.result (λ u. local (position j.deadline l u)) w.offset w.deadline v) e c.windows-windows.ensures in
+    let laid = subst (λ (a : List Node). (v : ℕ) → Laid a c.concrete-concrete.result (λ u. local (position j.deadline l u)) (offset_of w) (deadline_of w) v) e c.windows-windows.ensures in
     let windows = laid_windows ns sound c.args.choice j.deadline c.concrete-concrete.result c.concrete-concrete.ensures local l w laid in
     record {
       lengths = c.of-lengths.ensures;
