@@ -1,13 +1,9 @@
 -- How many branch numbers a job has: at least one, and at most 81.
-use Rattle.std.proofs.Common.{◌≡◌, ℕ, zero, suc, ◌-◌, ◌*◌, ◌≤◌, false, length, get_or, replicate, ap, ◌∙◌, inl, inr, mul-le-mul, arith}
-use Rattle.std.proofs.lemmas.List.{get_or_past, get_or-replicate}
-use Rattle.std.proofs.lemmas.Bool.{cases_lt}
+use Rattle.std.proofs.Common.{◌≡◌, ℕ, zero, suc, ◌-◌, ◌*◌, ◌≤◌, length, ap, mul-le-mul, arith}
 use Rattle.task.specs.declared.job.Job.{Job}
 use Rattle.task.specs.declared.node.Numbering.TheVariants.{Branch}
 use Rattle.task.specs.Flaws.{graph}
 use Rattle.task.specs.Picks.{numbers, product, ways}
-use Rattle.task.specs.Tables.{leads}
-use Rattle.task.proofs.Places.{no_row}
 use Rattle.task.proofs.Products.{product_small, ways_few}
 
 product_some : (f : ℕ → ℕ) → ((u : ℕ) → 1 ≤ f u) → (u n : ℕ) → 1 ≤ product f u n
@@ -26,13 +22,3 @@ branches_few j =
     let e : length (graph j) - 0 ≡ length (graph j) = omega arith in
     let same = ap (product (ways Branch (graph j)) 0) e in
     omega arith
-
--- a table in which nothing is reached
-pub nothing_reached : (u b : ℕ) → leads (replicate 81 (replicate 24 false)) u b ≡ false
-nothing_reached u b = elim (cases_lt b 81) [
-  | inl below ↦ ap (λ row. get_or row u false) (get_or-replicate 81 b (replicate 24 false) _ below) ∙ (elim (cases_lt u 24) [
-    | inl inside ↦ get_or-replicate 24 u false false inside
-    | inr past ↦ get_or_past (replicate 24 false) u false (omega arith)
-  ])
-  | inr past ↦ no_row (replicate 81 (replicate 24 false)) u b (omega arith)
-]

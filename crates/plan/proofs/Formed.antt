@@ -1,5 +1,5 @@
 -- What a plan's sub-tasks ask is well formed: every window opens before it closes, and closes by the deadline.
-use Rattle.std.proofs.Common.{◌≡◌, ℕ, zero, suc, ◌%◌, ◌<◌, ◌≤◌, Bool, true, false, cond, ◌&&◌, eqb, leb, List, [], ◌∷◌, ◌++◌, map, length, get_or, filter, ap, inl, inr, arith, length-take}
+use Rattle.std.proofs.Common.{◌≡◌, ℕ, zero, suc, ◌%◌, ◌<◌, ◌≤◌, Bool, true, false, cond, ◌&&◌, eqb, leb, List, [], ◌∷◌, ◌++◌, map, length, get_or, filter, ap, inl, inr, arith}
 use lib.ListN.{length-map}
 use Rattle.plan.specs.declared.part.Task.{Task}
 use Rattle.plan.specs.declared.plan.Plan.{Plan}
@@ -16,8 +16,8 @@ use Rattle.task.specs.Node.{missing, is_sub_task, ticks}
 use Rattle.task.specs.Ranges.{numbers_fit}
 use Rattle.theory.specs.Pattern.{FitsIn, WellFormed, Window}
 
-pub count_few : (p : Plan) → p.job.count ≤ 24
-count_few p = leb-true p.job.count 24 (and_parts (leb 1 p.job.count) (leb p.job.count 24) p.job.counted).1
+pub nodes_few : (p : Plan) → length (nodes_of p) ≤ 24
+nodes_few p = leb-true (length (nodes_of p)) 24 (and_parts (leb 1 (length (nodes_of p))) (leb (length (nodes_of p)) 24) p.job.counted).1
 
 pub period_divides : (p : Plan) → 14400 % p.job.period ≡ 0
 period_divides p = eqb-true _ 0 (and_parts (leb 1 p.job.period) (eqb (14400 % p.job.period) 0) p.job.periodic).1
@@ -70,19 +70,17 @@ all_rows Q f (row ∷ rows) each = (each row, all_rows Q f rows each)
 
 module _ (p : Plan) (t : Node → Bool) (only : (n : Node) → t n ≡ true → is_sub_task n ≡ true) where
   pub tasks_fit : AllByRecursion (λ x. FitsIn p.job.deadline (window_of x)) (tasks_where p t)
-  tasks_fit = all_below (λ x. FitsIn p.job.deadline (window_of x)) p (λ v. get_or p.members v false && t (at (nodes_of p) v)) p.job.count (λ v low yes'.
+  tasks_fit = all_below (λ x. FitsIn p.job.deadline (window_of x)) p (λ v. get_or p.members v false && t (at (nodes_of p) v)) (length (nodes_of p)) (λ v low yes'.
       let (member, passes) = and_parts (get_or p.members v false) (t (at (nodes_of p) v)) yes' in
       let is = only (at (nodes_of p) v) passes in
-      let long = length-take p.job.count p.job.nodes in
-      let inside : v < length (nodes_of p) = omega (arith, count_few p, p.job.sized) in
-      let some = node_some (at (nodes_of p) v) (p.job.ranged v inside) is in
+      let some = node_some (at (nodes_of p) v) (p.job.ranged v low) is in
       record { opens = omega (arith, p.roomy v member is); closes = p.timely v member is })
 
   pub pattern_formed : WellFormed (pattern_of p (tasks_where p t))
   pattern_formed = record {
     some_time = leb-true 1 p.job.deadline (and_parts (leb 1 p.job.deadline) (leb p.job.deadline p.job.period) p.job.due).0;
     within_period = leb-true p.job.deadline p.job.period (and_parts (leb 1 p.job.deadline) (leb p.job.deadline p.job.period) p.job.due).1;
-    some_branch = omega (arith, length-map (reached_rows p) (branch_of (tasks_where p t)), length-take p.branches p.reached, p.some, p.few, p.sized);
+    some_branch = omega (arith, length-map (reached_rows p) (branch_of (tasks_where p t)), p.some);
     windows = all_rows (AllByRecursion (FitsIn p.job.deadline)) (branch_of (tasks_where p t)) (reached_rows p) (λ row.
         all_map (FitsIn p.job.deadline) window_of (filter (λ (x : Task). get_or row x.node false) (tasks_where p t))
         (kept_all (λ x. FitsIn p.job.deadline (window_of x)) (λ (x : Task). get_or row x.node false) (tasks_where p t) tasks_fit));

@@ -4,8 +4,9 @@
 --   tasks_where p t        the sub-tasks of the concrete graph whose nodes pass the test t
 --   tagged g n             the node n is a sub-task of the tag g
 --   part_of p g            the part of the tag g: all sub-tasks of the concrete graph with the tag
---   tasks_in q             the sub-tasks that a table of them holds
-use Rattle.std.specs.Prelude.{ℕ, zero, suc, Bool, false, cond, ◌&&◌, List, [], ◌∷◌, ◌++◌, take, ◌==◌, slice_index, slice_index_or}
+--   tasks_in q             the sub-tasks of the part q
+use Rattle.std.specs.Prelude.{ℕ, zero, suc, Bool, false, cond, ◌&&◌, List, [], ◌∷◌, ◌++◌, length, ◌==◌, slice_index_or}
+use Rattle.few.specs.Few.{items}
 use Rattle.plan.specs.declared.part.Part.{Part}
 use Rattle.plan.specs.declared.part.Task.{Task}
 use Rattle.plan.specs.declared.plan.Plan.{Plan}
@@ -14,12 +15,13 @@ use Rattle.task.specs.declared.node.Node.{Node}
 use Rattle.task.specs.declared.node.Node.TheVariants.{SubTask, Alternative, Conditional}
 use Rattle.task.specs.Graph.{at}
 use Rattle.task.specs.Node.{ticks}
+use Rattle.window.specs.Windows.{deadline_of, offset_of}
 
 abbrev pub task_at : Plan → ℕ → Task
 task_at p v = record {
   node = v;
-  offset = slice_index p.windows.offset v;
-  deadline = slice_index p.windows.deadline v;
+  offset = offset_of p.windows v;
+  deadline = deadline_of p.windows v;
   ticks = ticks (at (nodes_of p) v);
 }
 
@@ -28,7 +30,7 @@ tasks_below p t zero = []
 tasks_below p t (suc v) = tasks_below p t v ++ cond (t v) (task_at p v ∷ []) []
 
 abbrev pub tasks_where : Plan → (Node → Bool) → List Task
-tasks_where p t = tasks_below p (λ v. slice_index_or p.members v false && t (at (nodes_of p) v)) p.job.count
+tasks_where p t = tasks_below p (λ v. slice_index_or p.members v false && t (at (nodes_of p) v)) (length (nodes_of p))
 
 abbrev pub tagged : ℕ → Node → Bool
 tagged g (SubTask tag ticks nodes) = tag == g
@@ -39,4 +41,4 @@ abbrev pub part_of : Plan → ℕ → List Task
 part_of p g = tasks_where p (tagged g)
 
 abbrev pub tasks_in : Part → List Task
-tasks_in q = take q.count q.tasks
+tasks_in q = items q.tasks

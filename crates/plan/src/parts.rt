@@ -1,14 +1,15 @@
 //! The parts of a plan.
-ghost use Rattle.std.specs.Prelude.{◌≡◌, ◌<◌, false, ◌&&◌, if◌then◌else◌, Some, None, slice_index_or};
+ghost use Rattle.std.specs.Prelude.{◌≡◌, ◌<◌, length, false, ◌&&◌, if◌then◌else◌, Some, None, slice_index_or};
 ghost use Rattle.plan.specs.Part.{part_of, tagged, task_at, tasks_in};
 ghost use Rattle.plan.specs.Plan.{nodes_of};
 ghost use Rattle.task.specs.Graph.{at};
 
 use crate::part::{Part, Task};
 use crate::plan::Plan;
+use few::few::Few;
 use task::node::{NODES, Node};
 
-/// A task that fills a table after the last one.
+/// A task that fills the places of a list after the last one.
 const BLANK: Task = Task {
     node: 0,
     offset: 0,
@@ -19,19 +20,22 @@ const BLANK: Task = Task {
 impl Plan {
     /// The sub-task at a node; nothing where it is outside the concrete graph, a fork, or has another tag.
     fn task(&self, tag: u32, v: usize) -> Option<Task>
-        requires { v < self.now.job.count }
+        requires { v < length (nodes_of self.now) }
         ensures { result ≡ (if slice_index_or self.now.members v false && tagged tag (at (nodes_of self.now) v) then Some (task_at self.now v) else None) }
     {
-        match self.job.graph()[v] {
-            Node::SubTask {
-                tag: own,
-                ticks,
-                ..
-            } if self.members[v] && own == tag => Some(Task {
+        let is_member = self.members[v];
+        match self.job.graph().get(v) {
+            Some(
+                Node::SubTask {
+                    tag: own,
+                    ticks,
+                    ..
+                },
+            ) if is_member && *own == tag => Some(Task {
                 node: v,
-                offset: self.windows.offset[v],
-                deadline: self.windows.deadline[v],
-                ticks,
+                offset: self.windows[v].offset,
+                deadline: self.windows[v].deadline,
+                ticks: *ticks,
             }),
             _ => None,
         }
@@ -41,14 +45,12 @@ impl Plan {
     pub fn part(&self, tag: u32) -> Part
         ensures { tasks_in result ≡ part_of self.now tag }
     {
-        let mut tasks = [BLANK; NODES];
-        let mut count = 0;
-        for v in 0..self.job.count {
+        let mut tasks: Few<Task, NODES> = Few::new(BLANK);
+        for v in 0..self.job.graph().len() {
             if let Some(task) = self.task(tag, v) {
-                tasks[count] = task;
-                count += 1;
+                tasks.push(task).unwrap();
             }
         }
-        Part { count, tasks }
+        Part { tasks }
     }
 }

@@ -1,14 +1,16 @@
 //! Making the plan of a choice.
-ghost use Rattle.std.specs.Prelude.{◌≡◌, ℕ, ◌<◌, ◌≤◌, false, [], length, MatchOption, slice_index_or};
+ghost use Rattle.std.specs.Prelude.{◌≡◌, ℕ, ◌<◌, [], length, MatchOption, slice_index_or};
+ghost use Rattle.few.specs.Few.{items};
 ghost use Rattle.plan.specs.Plan.{IsPlan};
 ghost use Rattle.task.specs.declared.node.Numbering.TheVariants.{Branch};
 ghost use Rattle.task.specs.Concrete.{Reached};
 ghost use Rattle.task.specs.Flaws.{graph};
 ghost use Rattle.task.specs.Picks.{numbers};
-ghost use Rattle.task.specs.Tables.{Free, Tells};
+ghost use Rattle.task.specs.Tables.{Tells};
 ghost use Rattle.window.specs.Path.{Possible};
 
 use crate::plan::{BRANCHES, Plan};
+use few::few::Few;
 use slack::rule::SlackRule;
 use task::job::Job;
 use task::node::NODES;
@@ -16,14 +18,13 @@ use window::layout::Layout;
 use window::possible::is_possible;
 
 /// What an arrival reaches, for each branch number.
-fn reached_by_branch(job: &Job, choice: u32) -> [[bool; NODES]; BRANCHES]
-    ensures sized { length result ≡ 81 }
-    ensures tells { (b : ℕ) → b < numbers Branch (graph job.now) → Tells (Reached (graph job.now) choice b) (slice_index_or result b []) }
-    ensures beyond { (b : ℕ) → numbers Branch (graph job.now) ≤ b → Free (slice_index_or result b []) }
+fn reached_by_branch(job: &Job, choice: u32) -> Few<[bool; NODES], BRANCHES>
+    ensures many { length (items result) ≡ numbers Branch (graph job.now) }
+    ensures tells { (b : ℕ) → b < numbers Branch (graph job.now) → Tells (Reached (graph job.now) choice b) (slice_index_or (items result) b []) }
 {
-    let mut rows = [[false; NODES]; BRANCHES];
+    let mut rows = Few::new([false; NODES]);
     for branch in 0..job.branches() {
-        rows[branch as usize] = job.reached(choice, branch);
+        rows.push(job.reached(choice, branch)).unwrap();
     }
     rows
 }
@@ -38,14 +39,12 @@ impl Plan {
         }
         let members = job.concrete(choice).members;
         let windows = Layout::of(job, choice, rule).windows;
-        let branches = job.branches() as usize;
         let reached = reached_by_branch(job, choice);
         Some(Plan {
             job: *job,
             choice,
             members,
             windows,
-            branches,
             reached,
         })
     }
