@@ -1,33 +1,31 @@
--- The courses of a calendar and the marks that they follow.
-use Rattle.std.specs.Prelude.{◌≡◌, ℕ, ◌+◌, ◌<◌, ◌≤◌, Bool, List, [], ◌∷◌, ◌++◌, map, length, take, slice_index_or, slice_set}
-use Rattle.std.proofs.Common.{sym, ap, subst, ◌∙◌, arith, length-take}
-use Rattle.std.proofs.ByRecursion.{All-get_or, All-more}
-use Rattle.std.proofs.lemmas.List.{get_or-map, get_or-take, map_more, map_push, take_all, take_more_set}
+-- The courses of a calendar, and what it answers of an engine.
+use Rattle.std.proofs.Common.{◌≡◌, ℕ, zero, suc, ◌+◌, ◌<◌, ◌≤◌, Bool, List, [], ◌∷◌, ◌++◌, map, length, get_or, take, Option, Some, None, MatchOption, Bor, sym, ap, subst, ◌∙◌}
+use Rattle.std.specs.List.{slice_get}
+use Rattle.std.specs.Option.{option_copied}
+use Rattle.std.proofs.lemmas.List.{map_more, map_push, take_all}
+use Rattle.std.proofs.lemmas.List.Elements.{All-more}
+use Rattle.std.proofs.lemmas.Option.{none-some, same_Some}
 use Rattle.engine.specs.declared.course.Course.{Course}
-use Rattle.engine.specs.declared.marks.Marks.{Marks}
 use Rattle.engine.specs.Calendar.{AllFit, calendar, idle, marks_of}
 use Rattle.engine.specs.Course.{served}
+use Rattle.engine.specs.declared.marks.Marks.{Marks}
 use Rattle.engine.specs.Marks.{Fit, marked}
 
-pub marks_at : (n : ℕ) (cs : List Course) (e : ℕ) (x : Course) → e < n → e < length cs → marks_of n cs e ≡ served (slice_index_or cs e x)
-marks_at n cs e x low inside = get_or-map served (take n cs) e x idle (omega (arith, length-take n cs)) ∙ ap served (get_or-take n cs e x low)
+-- the marks of a course that is there, or those of an engine that does not exist
+pub answered : (value : List Bool → ℕ) (cs : List Course) (e : ℕ) (o : Option (Bor Course)) (r : ℕ) → option_copied o ≡ slice_get cs e → MatchOption o (r ≡ value idle) (λ c. r ≡ value (served c.now)) → r ≡ value (marks_of cs e)
+answered value [] e None r at is = is
+answered value [] e (Some c) r at is = absurd (none-some c.now (sym at))
+answered value (c ∷ cs) zero None r at is = absurd (none-some c at)
+answered value (c ∷ cs) zero (Some d) r at is = is ∙ ap (λ (x : Course). value (served x)) (same_Some d.now c at)
+answered value (c ∷ cs) (suc e) o r at is = answered value cs e o r at is
 
--- the first course, one more, and all
-pub first_course : (ms : List Marks) (d : Marks) (c : Course) → 1 ≤ length ms → Fit (slice_index_or ms 0 d) × (c.marks ≡ slice_index_or ms 0 d) → AllFit (take 1 ms) × (◌≡◌ {A = List (List Bool)} (served c ∷ []) (map marked (take 1 ms)))
-first_course [] d c some is = absurd (omega arith)
-first_course (m ∷ ms) d c some is = ((is.0, tt), ap (λ (x : Marks). marked x ∷ []) is.1)
-
-pub more_courses : (ms : List Marks) (cs : List Course) (e : ℕ) (d : Marks) (c : Course) → e < length ms → e < length cs → Fit (slice_index_or ms e d) × (c.marks ≡ slice_index_or ms e d) → AllFit (take e ms) → calendar e cs ≡ map marked (take e ms) → AllFit (take (e + 1) ms) × (calendar (e + 1) (slice_set cs e c) ≡ map marked (take (e + 1) ms))
-more_courses ms cs e d c low inside is fit was = (
-  All-more Fit ms e d low fit is.0,
-  ap (map served) (take_more_set cs e c inside)
-      ∙ (map_push served (take e cs) c ∙ (ap (λ (xs : List (List Bool)). xs ++ served c ∷ []) was ∙ (ap (λ (x : Marks). map marked (take e ms) ++ marked x ∷ []) is.1 ∙ sym (map_more marked ms e d low)))),
+-- one course more
+pub one_more : (ms : List Marks) (i : ℕ) (m : Marks) (cs ds : List Course) (c : Course) → i < length ms → m ≡ get_or ms i m → Fit m × (served c ≡ marked m) → ds ≡ cs ++ c ∷ [] → AllFit (take i ms) → calendar cs ≡ map marked (take i ms) → AllFit (take (i + 1) ms) × (calendar ds ≡ map marked (take (i + 1) ms))
+one_more ms i m cs ds c below at is put fit was = (
+  All-more Fit ms i m below fit (subst Fit at is.0),
+  ap calendar put ∙ map_push served cs c ∙ ap (λ l. l ++ served c ∷ []) was ∙ ap (λ l. map marked (take i ms) ++ l ∷ []) (is.1 ∙ ap marked at) ∙ sym (map_more marked ms i m below),
 )
 
-pub all_courses : (ms : List Marks) (cs : List Course) (e : ℕ) → e ≡ length ms → AllFit (take e ms) → calendar e cs ≡ map marked (take e ms) → AllFit ms × (calendar (length ms) cs ≡ map marked ms)
-all_courses ms cs e last fit is =
-    let whole = take_all e ms (omega arith) in
-    (subst AllFit whole fit, ap (λ (n : ℕ). calendar n cs) (sym last) ∙ (is ∙ ap (map marked) whole))
-
-pub unfit_at : (ms : List Marks) (e : ℕ) (d : Marks) → e < length ms → (Fit (slice_index_or ms e d) → ⊥) → AllFit ms → ⊥
-unfit_at ms e d low unfit fit = unfit (All-get_or Fit ms e d low fit)
+-- and all of them
+pub all_made : (ms : List Marks) (i : ℕ) (cs : List Course) → length ms ≤ i → AllFit (take i ms) → calendar cs ≡ map marked (take i ms) → AllFit ms × (calendar cs ≡ map marked ms)
+all_made ms i cs past fit was = let whole = take_all i ms past in (subst AllFit whole fit, was ∙ ap (map marked) whole)

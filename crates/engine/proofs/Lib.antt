@@ -1,4 +1,4 @@
-pub mod Marking
-pub mod Summing
-pub mod Serving
 pub mod Calendars
+pub mod Marking
+pub mod Serving
+pub mod Summing

@@ -1,7 +1,6 @@
 -- The served ticks of an engine, and its laws.
 --   served c    the marks of the course, true for a served tick
-use Rattle.std.specs.Prelude.{◌≡◌, ℕ, ◌%◌, ◌≤◌, Bool, List, length}
-use Rattle.std.proofs.Common.{ap, ◌∙◌, arith, length-take}
+use Rattle.std.specs.Prelude.{◌≡◌, ◌%◌, ◌≤◌, Bool, List, length}
 use Rattle.cyclic.specs.Fewest.{fewest}
 use Rattle.cyclic.specs.Ones.{ones}
 use Rattle.cyclic.specs.FewestLaws.{fewest_none, fewest_grows, fewest_by_one, fewest_joins, fewest_repeats}
@@ -10,7 +9,7 @@ use Rattle.engine.specs.Marks.{marked}
 use Rattle.engine.specs.Supply.{Lawful}
 
 abbrev pub served : Course → List Bool
-served c = marked c.marks
+served c = marked c.round.marks
 
 pub laws_of_marks : (marks : List Bool) → 1 ≤ length marks → 14400 % length marks ≡ 0 → Lawful (fewest marks) (length marks) (ones marks 0 (length marks))
 laws_of_marks marks some divides = record {
@@ -23,11 +22,5 @@ laws_of_marks marks some divides = record {
   repeats = fewest_repeats marks some;
 }
 
-pub served_long : (c : Course) → length (served c) ≡ c.marks.length
-served_long c = let long = length-take c.marks.length c.marks.table in omega (arith, c.sized, c.short)
-
 pub course_laws : (c : Course) → Lawful (fewest (served c)) (length (served c)) (ones (served c) 0 (length (served c)))
-course_laws c =
-    let long = served_long c in
-    let some : 1 ≤ length (served c) = omega (arith, c.some) in
-    laws_of_marks (served c) some (ap (λ (n : ℕ). 14400 % n) long ∙ c.divides)
+course_laws c = laws_of_marks (served c) c.round.some c.round.divides

@@ -4,9 +4,8 @@
 pub mod calendar;
 mod course;
 pub mod marks;
-pub mod roll;
 pub mod roster;
-mod serve;
+mod round;
 mod sums;
 pub mod supply;
 pub mod tags;

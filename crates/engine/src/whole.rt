@@ -1,4 +1,5 @@
 //! A platform whose engines serve every tick.
+ghost use Rattle.std.specs.Prelude.{length};
 ghost use Rattle.engine.specs.Tags.{tag_list};
 ghost use Rattle.engine.specs.Whole.{whole_laws, whole_supply};
 ghost use Rattle.engine.specs.TagLaws.{rostered_tags};
@@ -12,7 +13,7 @@ use crate::tags::Tags;
 const CYCLE: u32 = 1;
 
 /// Engines that serve every tick.
-#[derive(Clone, Copy)]
+#[derive(Debug, Clone, Copy, PartialEq, Eq)]
 pub struct Whole {
     pub tags: Tags,
 }
@@ -22,8 +23,9 @@ impl Roster for Whole {
 
     ghost rostered = { λ p. rostered_tags p.tags };
 
+    // Each platform hands on to its tags: a trait that says it once would ask every roster for such tags.
     fn engines(&self) -> usize {
-        self.tags.count
+        self.tags.count()
     }
 
     fn tag(&self, engine: usize) -> Option<u32> {
@@ -32,18 +34,18 @@ impl Roster for Whole {
 }
 
 impl Supply for Whole {
-    ghost supply = { λ p e n. whole_supply p.tags.count e n };
+    ghost supply = { λ p e n. whole_supply (length (tag_list p.tags)) e n };
 
     ghost cycle = { λ p e. 1 };
 
-    ghost quota = { λ p e. whole_supply p.tags.count e 1 };
+    ghost quota = { λ p e. whole_supply (length (tag_list p.tags)) e 1 };
 
-    ghost laws = { λ p e. whole_laws p.tags.count e };
+    ghost laws = { λ p e. whole_laws (length (tag_list p.tags)) e };
 
     ghost missing = { Prim.search rules };
 
     fn supply(&self, engine: usize, ticks: u32) -> u32 {
-        if engine < self.tags.count {
+        if engine < self.tags.count() {
             ticks.min(FARTHEST)
         } else {
             0
@@ -55,6 +57,6 @@ impl Supply for Whole {
     }
 
     fn quota(&self, engine: usize) -> u32 {
-        u32::from(engine < self.tags.count)
+        u32::from(engine < self.tags.count())
     }
 }

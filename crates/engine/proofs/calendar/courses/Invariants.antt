@@ -1,7 +1,11 @@
-use Rattle.std.proofs.Common.{◌≡◌, ◌≤◌, map, length, take}
+use Rattle.std.proofs.Common.{◌≡◌, map, take}
+use Rattle.few.specs.Few.{items}
 use Rattle.engine.specs.Calendar.{AllFit, calendar}
 use Rattle.engine.specs.Marks.{marked}
 use Rattle.engine.proofs.calendar.courses.Given as goal
 
-abbrev pub invariant-loop-e : goal.invariant-loop-e
-invariant-loop-e l = (1 ≤ l.e) × (length l.courses ≡ 16) × AllFit (take l.e l.marks) × (calendar l.e l.courses ≡ map marked (take l.e l.marks))
+abbrev pub invariant-loop-each : goal.invariant-loop-each
+invariant-loop-each l = record {
+  fit : AllFit (take l.each-index l.marks);
+  made : calendar (items l.courses) ≡ map marked (take l.each-index l.marks);
+}

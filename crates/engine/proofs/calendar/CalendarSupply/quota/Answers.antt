@@ -1,16 +1,9 @@
-use Rattle.std.proofs.Common.{Bool, List, length, sym, ap, ◌∙◌, arith}
+use Rattle.std.proofs.Common.{rules, Bool, List, length}
 use Rattle.cyclic.specs.Ones.{ones}
-use Rattle.engine.specs.CalendarLaws.{none_served}
-use Rattle.engine.proofs.Calendars.{marks_at}
+use Rattle.few.specs.Few.{items}
+use Rattle.engine.specs.CalendarLaws.{ones_idle}
+use Rattle.engine.proofs.Calendars.{answered}
 use Rattle.engine.proofs.calendar.CalendarSupply.quota.Goals as goal
 
-pub returns-then-engine-self : goal.returns-then-engine-self
-returns-then-engine-self c =
-    let p = c.args.self.now in
-    let is = marks_at p.tags.count p.courses c.args.engine c.index-self-engine.result (omega arith) (omega (arith, p.sized, p.tags.few)) in
-    c.quota.ensures ∙ ap (λ (ms : List Bool). ones ms 0 (length ms)) (sym is)
-
-pub returns-else-engine-self : goal.returns-else-engine-self
-returns-else-engine-self c =
-    let p = c.args.self.now in
-    sym (none_served p.tags.count p.courses c.args.engine (omega arith)).nothing
+pub returns : goal.returns
+returns c = answered (λ (ms : List Bool). ones ms 0 (length ms)) (items c.args.self.now.courses) c.args.engine c.course.result c.map_or.result c.course.ensures (search (rules, ones_idle))

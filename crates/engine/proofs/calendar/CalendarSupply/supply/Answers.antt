@@ -1,16 +1,9 @@
-use Rattle.std.proofs.Common.{min, Bool, List, sym, ap, ◌∙◌, arith}
+use Rattle.std.proofs.Common.{rules, min, Bool, List}
 use Rattle.cyclic.specs.Fewest.{fewest}
-use Rattle.engine.specs.CalendarLaws.{none_served}
-use Rattle.engine.proofs.Calendars.{marks_at}
+use Rattle.few.specs.Few.{items}
+use Rattle.engine.specs.CalendarLaws.{fewest_idle}
+use Rattle.engine.proofs.Calendars.{answered}
 use Rattle.engine.proofs.calendar.CalendarSupply.supply.Goals as goal
 
-pub returns-then-engine-self : goal.returns-then-engine-self
-returns-then-engine-self c =
-    let p = c.args.self.now in
-    let is = marks_at p.tags.count p.courses c.args.engine c.index-self-engine.result (omega arith) (omega (arith, p.sized, p.tags.few)) in
-    c.supply.ensures ∙ (ap (fewest _) c.min.ensures ∙ ap (λ (ms : List Bool). fewest ms (min c.args.ticks 28800)) (sym is))
-
-pub returns-else-engine-self : goal.returns-else-engine-self
-returns-else-engine-self c =
-    let p = c.args.self.now in
-    sym ((none_served p.tags.count p.courses c.args.engine (omega arith)).idle (min c.args.ticks 28800))
+pub returns : goal.returns
+returns c = answered (λ (ms : List Bool). fewest ms (min c.args.ticks 28800)) (items c.args.self.now.courses) c.args.engine c.course.result c.map_or.result c.course.ensures (search (rules, fewest_idle))
