@@ -1,8 +1,5 @@
 pub mod Firsts
-pub mod Gathering
 pub mod Listed
 pub mod Loads
-pub mod Places
-pub mod Rows
-pub mod Seeking
 pub mod Sorts
+pub mod Tagging

@@ -3,17 +3,12 @@ use Rattle.std.proofs.Common.{◌≡◌, ℕ, zero, suc, ◌<◌, ◌≤◌, tru
 use Rattle.engine.specs.Roster.{tag_of}
 use Rattle.order.specs.Listing.{EachOnce, times}
 use Rattle.std.proofs.lemmas.Bool.{cases_Bool, cases_eq, eqb-true, eq-eqb}
+use Rattle.std.proofs.lemmas.Option.{none-some, same_Some}
 use Rattle.std.specs.List.{slice_get}
 
-none_some : {x : ℕ} → None ≡ Some x → ⊥
-none_some is = let z : ◌≡◌ {A = ℕ} 0 1 = cc in omega arith
-
-some_same : {x y : ℕ} → Some x ≡ Some y → x ≡ y
-some_same is = cc
-
 cases_some : (o : Option ℕ) (x : ℕ) → (o ≡ Some x) ⊎ (o ≡ Some x → ⊥)
-cases_some None x = inr (λ is. none_some is)
-cases_some (Some y) x = elim (cases_eq y x) [ inl same ↦ inl (ap Some same) | inr other ↦ inr (λ is. other (some_same is)) ]
+cases_some None x = inr (λ is. none-some _ is)
+cases_some (Some y) x = elim (cases_eq y x) [ inl same ↦ inl (ap Some same) | inr other ↦ inr (λ is. other (same_Some _ _ is)) ]
 
 place_of : (e : ℕ) (xs : List ℕ) → 1 ≤ times e xs → (k : ℕ) × (k < length xs) × (slice_get xs k ≡ Some e)
 place_of e [] some = absurd (omega arith)
@@ -24,15 +19,15 @@ place_of e (x ∷ xs) some =
     ]
 
 times_at : (e : ℕ) (xs : List ℕ) (k : ℕ) → slice_get xs k ≡ Some e → 1 ≤ times e xs
-times_at e [] k is = absurd (none_some is)
-times_at e (x ∷ xs) zero is = let same : eqb x e ≡ true = eq-eqb x e (some_same is) in rw same (omega arith)
+times_at e [] k is = absurd (none-some _ is)
+times_at e (x ∷ xs) zero is = let same : eqb x e ≡ true = eq-eqb x e (same_Some _ _ is) in rw same (omega arith)
 times_at e (x ∷ xs) (suc k) is = let rec = times_at e xs k is in omega arith
 
 one_place : (e : ℕ) (xs : List ℕ) (j k : ℕ) → times e xs ≤ 1 → slice_get xs j ≡ Some e → slice_get xs k ≡ Some e → j ≡ k
-one_place e [] j k once is so = absurd (none_some is)
+one_place e [] j k once is so = absurd (none-some _ is)
 one_place e (x ∷ xs) zero zero once is so = refl
-one_place e (x ∷ xs) zero (suc k) once is so = let same : eqb x e ≡ true = eq-eqb x e (some_same is) in let more = times_at e xs k so in absurd (omega (arith, rw same at once))
-one_place e (x ∷ xs) (suc j) zero once is so = let same : eqb x e ≡ true = eq-eqb x e (some_same so) in let more = times_at e xs j is in absurd (omega (arith, rw same at once))
+one_place e (x ∷ xs) zero (suc k) once is so = let same : eqb x e ≡ true = eq-eqb x e (same_Some _ _ is) in let more = times_at e xs k so in absurd (omega (arith, rw same at once))
+one_place e (x ∷ xs) (suc j) zero once is so = let same : eqb x e ≡ true = eq-eqb x e (same_Some _ _ so) in let more = times_at e xs j is in absurd (omega (arith, rw same at once))
 one_place e (x ∷ xs) (suc j) (suc k) once is so = ap suc (one_place e xs j k (omega arith) is so)
 
 module _ (tags : List ℕ) (tag : ℕ) (list : List ℕ) (each : EachOnce tags tag list) where

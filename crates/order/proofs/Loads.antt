@@ -1,7 +1,15 @@
--- The order by load is total.
-use Rattle.std.proofs.Common.{◌≡◌, ℕ, true, false, List, get_or, arith}
-use Rattle.order.specs.Fullest.{is_before, before, ahead}
-use Rattle.order.proofs.Sorts.{Strict}
+-- The orders by load are total, and how candidates are compared.
+use Rattle.std.proofs.Common.{◌≡◌, ℕ, Bool, true, false, cond, ◌&&◌, ◌||◌, eqb, ltb, Less, Equal, Greater, List, [], ◌∷◌, map, get_or, sym, refl, ap, ◌∙◌, arith}
+use Rattle.std.proofs.lemmas.Option.{slice_get-map}
+use Rattle.std.specs.Cmp.{IsStrictWeakOrder}
+use Rattle.std.specs.List.{slice_get}
+use Rattle.std.specs.List.Sorted.{IsPermutation, IsSortedBy}
+use Rattle.std.specs.Option.{option_map}
+use Rattle.std.specs.Ordering.{is_lt, nat_cmp, ordering_then}
+use Rattle.order.specs.declared.fullest.Candidate.{Candidate}
+use Rattle.order.specs.Fullest.{is_before, before, candidate}
+use Rattle.order.specs.Sorting.{put, sorted}
+use Rattle.order.proofs.Sorts.{Strict, sorted_is}
 use Rattle.std.proofs.lemmas.Bool.Decides.{nat_tests}
 
 one_way_by : (m n a b : ℕ) → is_before m n a b ≡ true → is_before n m b a ≡ false
@@ -23,9 +31,59 @@ before_strict loads = record {
   level = λ x y. same_number (get_or loads x 0) (get_or loads y 0) x y;
 }
 
+-- the same order of candidates
+abbrev pub ahead : Candidate → Candidate → Bool
+ahead c d = is_before c.load.0 d.load.0 c.engine d.engine
+
 pub ahead_strict : Strict ahead
 ahead_strict = record {
-  one_way = λ x y. one_way_by x.load y.load x.engine y.engine;
-  chain = λ x y z. chain_by x.load y.load z.load x.engine y.engine z.engine;
-  level = λ x y is so. (λ i. record { load = same_load x.load y.load x.engine y.engine is so i; engine = same_number x.load y.load x.engine y.engine is so i });
+  one_way = λ x y. one_way_by x.load.0 y.load.0 x.engine y.engine;
+  chain = λ x y z. chain_by x.load.0 y.load.0 z.load.0 x.engine y.engine z.engine;
+  level = λ x y is so. (λ i. record { load = record { 0 = same_load x.load.0 y.load.0 x.engine y.engine is so i }; engine = same_number x.load.0 y.load.0 x.engine y.engine is so i });
 }
+
+falls_by : (m n k a b c : ℕ) → is_before m n a b ≡ false → is_before n k b c ≡ false → is_before m k a c ≡ false
+falls_by m n k a b c is so = grind (arith, nat_tests)
+
+pub ahead_weak : IsStrictWeakOrder ahead
+ahead_weak = record {
+  one_way = ahead_strict.one_way;
+  chain = λ x y z. falls_by x.load.0 y.load.0 z.load.0 x.engine y.engine z.engine;
+}
+
+-- what the comparison of candidates tells
+ranked_by : (p q r s : Bool) → is_lt (ordering_then (cond p Less (cond q Equal Greater)) (cond r Less (cond s Equal Greater))) ≡ (p || (q && r))
+ranked_by true q r s = refl
+ranked_by false true true s = refl
+ranked_by false true false true = refl
+ranked_by false true false false = refl
+ranked_by false false r s = refl
+
+pub ranked : (c d : Candidate) → is_lt (ordering_then (nat_cmp d.load.0 c.load.0) (nat_cmp c.engine d.engine)) ≡ ahead c d
+ranked c d =
+    let same : eqb d.load.0 c.load.0 ≡ eqb c.load.0 d.load.0 = grind (arith, nat_tests) in
+    ranked_by (ltb d.load.0 c.load.0) (eqb d.load.0 c.load.0) (ltb c.engine d.engine) (eqb c.engine d.engine) ∙ ap (λ b. ltb d.load.0 c.load.0 || (b && ltb c.engine d.engine)) same
+
+module _ (loads : List ℕ) where
+  put_map_by : (e y : ℕ) (ys : List ℕ) → put ahead (candidate loads e) (map (candidate loads) ys) ≡ map (candidate loads) (put (before loads) e ys) → (b : Bool) → cond b (candidate loads e ∷ (candidate loads y ∷ map (candidate loads) ys)) (candidate loads y ∷ put ahead (candidate loads e) (map (candidate loads) ys)) ≡ map (candidate loads) (cond b (e ∷ (y ∷ ys)) (y ∷ put (before loads) e ys))
+  put_map_by e y ys rec true = refl
+  put_map_by e y ys rec false = ap (λ l. candidate loads y ∷ l) rec
+
+  put_map : (e : ℕ) (ys : List ℕ) → put ahead (candidate loads e) (map (candidate loads) ys) ≡ map (candidate loads) (put (before loads) e ys)
+  put_map e [] = refl
+  put_map e (y ∷ ys) = put_map_by e y ys (put_map e ys) (before loads e y)
+
+  sorted_map : (es : List ℕ) → sorted ahead (map (candidate loads) es) ≡ map (candidate loads) (sorted (before loads) es)
+  sorted_map [] = refl
+  sorted_map (e ∷ es) = ap (put ahead (candidate loads e)) (sorted_map es) ∙ put_map e (sorted (before loads) es)
+
+  engines : (es : List ℕ) → map (λ (c : Candidate). c.engine) (map (candidate loads) es) ≡ es
+  engines [] = refl
+  engines (e ∷ es) = ap (λ l. e ∷ l) (engines es)
+
+  -- the engine at a place of the candidates in order
+  pub engine_at : (es : List ℕ) (cs : List Candidate) (place : ℕ) → IsPermutation (map (candidate loads) es) cs → IsSortedBy ahead cs → option_map (λ (c : Candidate). c.engine) (slice_get cs place) ≡ slice_get (sorted (before loads) es) place
+  engine_at es cs place moved up =
+      sym (slice_get-map (λ (c : Candidate). c.engine) cs place)
+      ∙ ap (λ l. slice_get (map (λ (c : Candidate). c.engine) l) place) (sorted_is ahead ahead_strict (map (candidate loads) es) cs ahead_weak moved up ∙ sorted_map es)
+      ∙ ap (λ l. slice_get l place) (engines (sorted (before loads) es))

@@ -1,9 +1,12 @@
 -- Lists sorted by a total order.
-use Rattle.std.proofs.Common.{◌≡◌, ℕ, zero, suc, ◌<◌, Bool, true, false, cond, List, [], ◌∷◌, ◌++◌, length, get_or, set, sym, refl, ap, ◌∙◌, arith}
+use Rattle.std.proofs.Common.{◌≡◌, ℕ, zero, suc, ◌+◌, ◌<◌, Bool, true, false, cond, List, [], ◌∷◌, length, get_or, set, sym, refl, ap, subst, ◌∙◌, arith}
 use Rattle.order.specs.Sorting.{put, sorted, InOrder}
-use Rattle.std.proofs.ByRecursion.{All-weaker}
+use Rattle.std.proofs.ByRecursion.{All-from_get_or, All-weaker}
 use Rattle.std.proofs.lemmas.Bool.{true≢false, cond_both}
-use Rattle.std.specs.List.{AllByRecursion}
+use Rattle.std.proofs.lemmas.List.Sorted.{IsPermutation-keeps, sorted_far}
+use Rattle.std.specs.Cmp.{IsStrictWeakOrder}
+use Rattle.std.specs.List.{AllByRecursion, swap}
+use Rattle.std.specs.List.Sorted.{IsPermutation, IsSortedBy}
 
 -- before is a total order: of two that differ one comes before the other
 pub record Strict {X : Type 0} (before : X → X → Bool) : Type 0 where
@@ -21,10 +24,6 @@ module _ {X : Type 0} (before : X → X → Bool) where
   pub all_put : (P : X → Type 0) (x : X) (ys : List X) → P x → AllByRecursion P ys → AllByRecursion P (put before x ys)
   all_put P x [] here all = (here, tt)
   all_put P x (y ∷ ys) here all = cond_both (before x y) (x ∷ (y ∷ ys)) (y ∷ put before x ys) (λ l. AllByRecursion P l) (λ _. (here, all)) (λ _. (all.0, all_put P x ys here all.1))
-
-  pub all_sorted : (P : X → Type 0) (xs : List X) → AllByRecursion P xs → AllByRecursion P (sorted before xs)
-  all_sorted P [] all = tt
-  all_sorted P (x ∷ xs) all = all_put P x (sorted before xs) all.0 (all_sorted P xs all.1)
 
 module _ {X : Type 0} (before : X → X → Bool) (o : Strict before) where
   later : (x y z : X) → before x y ≡ true → before z y ≡ false → (b : Bool) → before z x ≡ b → b ≡ false
@@ -68,10 +67,6 @@ module _ {X : Type 0} (before : X → X → Bool) (o : Strict before) where
   put_comm a b [] = two a b [] (before a b) (before b a) refl refl
   put_comm a b (x ∷ xs) = put_comm_by a b x xs (put_comm a b xs) (before a x) (before b x) refl refl
 
-  pub sorted_push : (xs : List X) (y : X) → sorted before (xs ++ (y ∷ [])) ≡ put before y (sorted before xs)
-  sorted_push [] y = refl
-  sorted_push (x ∷ xs) y = ap (put before x) (sorted_push xs y) ∙ put_comm x y (sorted before xs)
-
   pub sorted_set : (xs : List X) (i : ℕ) (y d : X) → i < length xs → put before (get_or xs i d) (sorted before (set xs i y)) ≡ put before y (sorted before xs)
   sorted_set [] i y d in' = absurd (omega arith)
   sorted_set (x ∷ xs) zero y d in' = put_comm x y (sorted before xs)
@@ -87,3 +82,34 @@ module _ {X : Type 0} (before : X → X → Bool) (o : Strict before) where
   pub put_first : (x : X) (ys : List X) → AllByRecursion (λ y. before y x ≡ false) ys → put before x ys ≡ x ∷ ys
   put_first x [] all = refl
   put_first x (y ∷ ys) all = put_first_by x y ys (put_first x ys all.1) all.0 (before x y) refl
+
+  sorted_swapped : (xs : List X) (i j : ℕ) (d : X) → i < length xs → j < length xs → sorted before (set (set xs i (get_or xs j d)) j (get_or xs i d)) ≡ sorted before xs
+  sorted_swapped [] i j d low low' = refl
+  sorted_swapped (x ∷ xs) zero zero d low low' = refl
+  sorted_swapped (x ∷ xs) zero (suc j) d low low' = sorted_set xs j x d (omega arith)
+  sorted_swapped (x ∷ xs) (suc i) zero d low low' = sorted_set xs i x d (omega arith)
+  sorted_swapped (x ∷ xs) (suc i) (suc j) d low low' = ap (put before x) (sorted_swapped xs i j d (omega arith) (omega arith))
+
+  sorted_swap : (xs : List X) (i j : ℕ) → i < length xs → j < length xs → sorted before (swap xs i j) ≡ sorted before xs
+  sorted_swap [] i j low low' = refl
+  sorted_swap (x ∷ xs) i j low low' = sorted_swapped (x ∷ xs) i j x low low'
+
+  sorted_permutation : (xs ys : List X) → IsPermutation xs ys → sorted before ys ≡ sorted before xs
+  sorted_permutation xs ys moved = IsPermutation-keeps xs (λ l. sorted before l ≡ sorted before xs) refl (λ l i j low low' same. sorted_swap l i j low low' ∙ same) ys moved
+
+  sorted_itself : (xs : List X) → InOrder before xs → sorted before xs ≡ xs
+  sorted_itself [] so = refl
+  sorted_itself (x ∷ xs) so = ap (put before x) (sorted_itself xs so.1) ∙ put_first x xs so.0
+
+  in_order : (xs : List X) → IsStrictWeakOrder before → IsSortedBy before xs → InOrder before xs
+  in_order [] weak up = tt
+  in_order (x ∷ xs) weak up = (
+    All-from_get_or (λ y. before y x ≡ false) xs x (λ k low. sorted_far before weak (x ∷ xs) up 0 (suc k) x (omega arith) (omega arith)),
+    in_order xs weak (λ k d low high.
+        let next : suc k + 1 ≡ suc (k + 1) = omega arith in
+        subst (λ (n : ℕ). before (get_or (x ∷ xs) n d) (get_or xs k d) ≡ false) next (up (suc k) d (omega arith) (omega arith))),
+  )
+
+  -- a list in order that has the items of another is the other sorted
+  pub sorted_is : (xs ys : List X) → IsStrictWeakOrder before → IsPermutation xs ys → IsSortedBy before ys → ys ≡ sorted before xs
+  sorted_is xs ys weak moved up = sym (sorted_itself ys (in_order ys weak up)) ∙ sorted_permutation xs ys moved

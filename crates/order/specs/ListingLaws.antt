@@ -1,15 +1,10 @@
 -- How often a number stands in a list, and lists that have every engine of a tag once.
-use Rattle.std.specs.Prelude.{◌≡◌, ℕ, zero, suc, ◌+◌, ◌<◌, Bool, true, false, cond, List, [], ◌∷◌, ◌++◌, Some, None, filter, ◌==◌, ◌≢◌, nat_eq, refl}
+use Rattle.std.specs.Prelude.{◌≡◌, ℕ, zero, suc, ◌+◌, ◌<◌, Bool, true, false, cond, List, [], ◌∷◌, ◌++◌, Some, filter, ◌==◌, ◌≢◌, nat_eq, refl}
 use Rattle.std.proofs.Common.{sym, ap, ◌∙◌, arith}
 use Rattle.engine.specs.Roster.{tag_of}
+use Rattle.std.proofs.lemmas.Option.{none-some, same_Some}
 use Rattle.order.specs.Listing.{EachOnce, times, engines_from, engines_of}
 use Rattle.std.proofs.lemmas.Bool.{eqb-true, eq-eqb, ne_eqb, true≢false, false≢true}
-
-none_some : {x : ℕ} → None ≢ Some x
-none_some is = let z : ◌≡◌ {A = ℕ} 0 1 = cc in omega arith
-
-some_same : {x y : ℕ} → Some x ≡ Some y → x ≡ y
-some_same is = cc
 
 cond_one : (b : Bool) → ◌≡◌ {A = ℕ} (cond b 1 1) 1
 cond_one true = refl
@@ -56,10 +51,10 @@ below e i (t ∷ ts) tag lt =
     times_cond e i (engines_from (suc i) ts tag) (t == tag) ∙ rw (other, rec) (cond_same (t == tag))
 
 found : (e k i : ℕ) (ts : List ℕ) (tag : ℕ) → e ≡ i + k → tag_of ts k ≡ Some tag → times e (engines_from i ts tag) ≡ 1
-found e k i [] tag at is = absurd (none_some is)
+found e k i [] tag at is = absurd (none-some _ is)
 found e zero i (t ∷ ts) tag at is =
     let here : nat_eq i e ≡ true = eq-eqb i e (omega arith) in
-    let tagged : nat_eq t tag ≡ true = eq-eqb t tag (some_same is) in
+    let tagged : nat_eq t tag ≡ true = eq-eqb t tag (same_Some _ _ is) in
     let rest = below e (suc i) ts tag (omega arith) in
     times_cond e i (engines_from (suc i) ts tag) (t == tag) ∙ rw (tagged, here, rest) refl
 found e (suc k) i (t ∷ ts) tag at is =

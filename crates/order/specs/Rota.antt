@@ -4,7 +4,6 @@
 --   rota_list last engines                       the engines after the last, then the others
 --   last_told was tellings tag                   the engine last told of the tag, or what was before
 --   rota_listing rota tellings tags tag loads    the engines of the tag in turn, from after the last that took a part of it; of a tag above 7 none is remembered
---   side tags tag last after                     the engines of the tag after the last, or the others
 use Rattle.std.specs.Prelude.{ℕ, Bool, true, cond, not, List, [], ◌∷◌, ◌++◌, Some, None, filter, Option, ◌==◌, nat_lt, slice_index_or}
 use Rattle.order.specs.declared.rota.Rota.{Rota}
 use Rattle.order.specs.Listing.{engines_of}
@@ -26,9 +25,3 @@ remembered rota tag = cond (nat_lt tag 8) (slice_index_or rota.last tag None) No
 abbrev pub rota_listing : Rota → List (ℕ × ℕ) → List ℕ → ℕ → List ℕ → List ℕ
 rota_listing rota tellings tags tag loads =
     rota_list (cond (nat_lt tag 8) (last_told (slice_index_or rota.last tag None) tellings tag) None) (engines_of tags tag)
-
-abbrev pub turn : Option ℕ → Bool → ℕ → Bool
-turn last after e = cond after (is_after last e) (not (is_after last e))
-
-abbrev pub side : List ℕ → ℕ → Option ℕ → Bool → List ℕ
-side tags tag last after = filter (λ e. turn last after e) (engines_of tags tag)

@@ -5,7 +5,7 @@ ghost use Rattle.std.specs.Prelude.{◌≡◌, length};
 pub const TAGS: usize = 8;
 
 /// By rising number from after the engine that last took a part of the tag; from the first engine for a tag that none took.
-#[derive(Clone, Copy)]
+#[derive(Debug, Clone, Copy, PartialEq, Eq)]
 pub struct Rota {
     pub(crate) last: [Option<usize>; TAGS],
     ghost sized: { length last ≡ 8 },

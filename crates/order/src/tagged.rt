@@ -1,12 +1,23 @@
-//! Whether an engine has a tag.
-ghost use Rattle.std.specs.Prelude.{◌≡◌, Some, Decides};
-ghost use Rattle.engine.specs.Roster.{tag_of};
+//! The engines of a tag.
+ghost use Rattle.std.specs.Prelude.{◌≡◌, ◌<◌, All};
+ghost use Rattle.few.specs.Few.{items};
+ghost use Rattle.order.specs.Listing.{engines_of};
 
-use engine::roster::Roster;
+use engine::roster::{ENGINES, Roster};
+use few::few::Few;
 
-/// Whether the engine has the tag.
-pub(crate) fn is_tagged<R: Roster>(roster: &R, tag: u32, engine: usize) -> bool
-    ensures { Decides result (tag_of (R.Roster.tags roster.now) engine ≡ Some tag) }
+/// The engines of the tag by rising number.
+pub(crate) fn tagged<R: Roster>(roster: &R, tag: u32) -> Few<usize, ENGINES>
+    ensures engines { items result ≡ engines_of (R.Roster.tags roster.now) tag }
+    ensures below { All (λ e. e < 16) (items result) }
 {
-    roster.tag(engine) == Some(tag)
+    let mut engines = Few::new(0);
+    for engine in 0..roster.engines() {
+        if roster.tag(engine) == Some(tag) {
+            let Ok(()) = engines.push(engine) else {
+                unreachable();
+            };
+        }
+    }
+    engines
 }

@@ -1,19 +1,30 @@
-use Rattle.std.proofs.Common.{sym, ap, rules}
+use Rattle.std.proofs.Common.{rules, ℕ, ◌+◌, ◌<◌, ◌≤◌, List, length, get_or, Option, Some, None, MatchOption, Bor, ◌≡◌, sym, refl, ap, subst, ◌∙◌}
+use Rattle.std.proofs.lemmas.Option.{slice_get_past, slice_get_read}
+use Rattle.std.specs.List.{HoldsAt, slice_get}
+use Rattle.std.specs.List.Sorted.{IsPermutation, IsSortedBy}
+use Rattle.std.specs.Option.{option_copied, option_map}
+use Rattle.order.specs.declared.fullest.Candidate.{Candidate}
+use Rattle.few.specs.Few.{items}
 use Rattle.order.specs.Fullest.{before}
 use Rattle.order.specs.Listing.{engines_of}
-use Rattle.order.proofs.Gathering.{engines_sorted}
-use Rattle.order.proofs.Loads.{before_strict}
+use Rattle.order.proofs.Loads.{ahead, before_strict, engine_at, ranked}
 use Rattle.order.proofs.Sorts.{in_order_sorted}
 use Rattle.order.proofs.fullest.FullestEngineOrder.place.Goals as goal
-use Rattle.std.specs.List.{slice_get}
 
-pub loop-rest-init : goal.loop-rest-init
-loop-rest-init g c = sym (ap (λ l. slice_get l c.args.place) (engines_sorted c.args.loads.now _ (engines_of (g.R.Roster.tags c.args.roster.now) c.args.tag) c.of-row.ensures))
+read_at : {X : Type 0} (xs : List X) (k : ℕ) (o : Option (Bor X)) → MatchOption o (length xs ≤ k) (λ x. (k < length xs) × HoldsAt (λ y. x.now ≡ y) xs k) → option_copied o ≡ slice_get xs k
+read_at xs k None past = sym (slice_get_past xs k past)
+read_at xs k (Some x) at = sym (slice_get_read xs (length xs) k x.now refl at.0 (at.1 x.now))
 
-pub returns-in_err-take_first : goal.returns-in_err-take_first
-returns-in_err-take_first g c =
-    record { at = search rules; sorted = in_order_sorted (before c.args.loads.now) (before_strict c.args.loads.now) (engines_of (g.R.Roster.tags c.args.roster.now) c.args.tag) }
+pub returns-clause-at : goal.returns-clause-at
+returns-clause-at g c =
+    let loads = c.args.loads.now in
+    let es = engines_of (g.R.Roster.tags c.args.roster.now) c.args.tag in
+    let cs = items c.sort.new.self in
+    let got = read_at c.deref.result.now c.args.place c.get.result c.get.ensures.lookup.3 ∙ ap (λ l. slice_get l c.args.place) c.deref.ensures.0 in
+    let named : c.map.result ≡ option_map (λ (d : Candidate). d.engine) (option_copied c.get.result) = search rules in
+    let moved = subst (λ l. IsPermutation l cs) c.candidates-candidates.ensures c.sort.ensures.same in
+    let up : IsSortedBy ahead cs = λ k d low high. sym (ranked (get_or cs (k + 1) d) (get_or cs k d)) ∙ c.sort.ensures.sorted k d low high in
+    named ∙ ap (option_map (λ (d : Candidate). d.engine)) got ∙ engine_at loads es cs c.args.place moved up
 
-pub returns : goal.returns
-returns g c =
-    record { at = search rules; sorted = in_order_sorted (before c.args.loads.now) (before_strict c.args.loads.now) (engines_of (g.R.Roster.tags c.args.roster.now) c.args.tag) }
+pub returns-clause-sorted : goal.returns-clause-sorted
+returns-clause-sorted g c = in_order_sorted (before c.args.loads.now) (before_strict c.args.loads.now) (engines_of (g.R.Roster.tags c.args.roster.now) c.args.tag)
