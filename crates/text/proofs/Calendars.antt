@@ -1,21 +1,22 @@
 -- What a platform text says has the tags and marks of a calendar.
-use Rattle.std.proofs.Common.{◌≡◌, ℕ, zero, suc, ◌+◌, ◌/◌, ◌%◌, ◌^◌, ◌<◌, ◌≤◌, Bool, true, false, eqb, leb, List, [], ◌∷◌, map, length, get_or, take, decimal, sym, refl, ap, ◌∙◌, subst, inl, inr, pow-suc, le-div_iff_mul-le, arith, length-take}
+use Rattle.std.proofs.Common.{◌≡◌, ℕ, zero, suc, ◌+◌, ◌/◌, ◌%◌, ◌^◌, ◌<◌, ◌≤◌, false, eqb, leb, List, [], ◌∷◌, map, length, decimal, ap, inl, inr, pow-suc, le-div_iff_mul-le, arith, length-take}
 use native.Mathlib.Nat.{pow-le-pow_right}
 use Rattle.std.specs.List.{AllByRecursion}
 use Rattle.std.specs.Fmt.{digits, digits_onto, digit_glyph}
 use Rattle.std.proofs.lemmas.Fmt.{length-decimal-le, decimal_injective}
-use Rattle.std.proofs.ByRecursion.{All-from_get_or}
-use Rattle.std.proofs.lemmas.List.{get_or-take, length-map}
+use Rattle.std.proofs.lemmas.List.{length-map}
 use Rattle.std.proofs.lemmas.Bool.{cases_lt, cases_Bool, and_parts, leb-true, ne_eqb}
-use Rattle.task.proofs.Places.{true_inside}
-use Rattle.engine.specs.Marks.{Fit}
+use Rattle.std.specs.List.{All}
+use Rattle.std.proofs.lemmas.List.Elements.{All-from_recursion}
+use Rattle.few.specs.Few.{items}
+use Rattle.engine.specs.Marks.{Fit, marked}
+use Rattle.text.proofs.Marking.{fit_from, marked_any, marks_same, marks_written, ones}
 use Rattle.engine.specs.Roster.{Rostered}
 use Rattle.text.specs.declared.platform_text.Engine.{Engine}
 use Rattle.text.specs.declared.platform_text.Platform.{Platform}
-use Rattle.text.specs.CalendarText.{marks_in}
-use Rattle.text.specs.PlatformText.{Plain, Described, Reads, said, engines_slots, blank}
+use Rattle.text.specs.PlatformText.{Reads, said, engines_slots}
 use Rattle.text.specs.declared.key.Key.TheVariants.{Tag, Engines, Marks as Marks'}
-use Rattle.text.specs.Slots.{InRange, MarksFit, slot}
+use Rattle.text.specs.Slots.{InRange, slot}
 use Rattle.text.specs.Value.{Numeral, mark_bytes}
 
 pub spelled_more : (k m : ℕ) (acc : List ℕ) → length acc ≤ length (digits_onto k 10 false m acc)
@@ -50,59 +51,35 @@ decimal_numeral m n is = elim (cases_lt m (10 ^ 9)) [
   | inr past ↦ absurd (omega (arith, long_decimal m past, ap length is.written, length-decimal-le 9 n (omega arith) is.small (omega (arith, is.small))))
 ]
 
-marks_same : (ms ns : List Bool) → mark_bytes ms ≡ mark_bytes ns → ms ≡ ns
-marks_same [] [] e = refl
-marks_same [] (n ∷ ns) e = absurd (omega (arith, ap length e))
-marks_same (m ∷ ms) [] e = absurd (omega (arith, ap length e))
-marks_same (true ∷ ms) (true ∷ ns) e = ap (λ l. true ∷ l) (marks_same ms ns (let q : mark_bytes ms ≡ mark_bytes ns = cc in q))
-marks_same (false ∷ ms) (false ∷ ns) e = ap (λ l. false ∷ l) (marks_same ms ns (let q : mark_bytes ms ≡ mark_bytes ns = cc in q))
-marks_same (true ∷ ms) (false ∷ ns) e = absurd (let z : ◌≡◌ {A = ℕ} 49 48 = ap (λ l. get_or l 0 0) e in omega arith)
-marks_same (false ∷ ms) (true ∷ ns) e = absurd (let z : ◌≡◌ {A = ℕ} 48 49 = ap (λ l. get_or l 0 0) e in omega arith)
-
-tag_small : (tag : ℕ) → InRange (slot Tag 0 (decimal tag)) → tag ≤ 7
+tag_small : (tag : ℕ) → InRange (slot Tag (decimal tag)) → tag ≤ 7
 tag_small tag r = omega (arith, decimal_numeral tag r.0 r.1, leb-true r.0 7 r.2)
 
-marks_fit : (e : Engine) → Plain e → InRange (slot Marks' 0 (mark_bytes (take e.length e.marks))) → Fit (marks_in e)
-marks_fit e plain r =
-    let ms = take e.length e.marks in
-    let same : ms ≡ r.marks = marks_same ms r.marks r.written in
-    let fit = subst MarksFit (sym same) r.all in
-    let long : length ms ≡ e.length = omega (arith, length-take e.length e.marks, plain.size, plain.short) in
-    let (i, y) = fit.serves in
-    let inside = true_inside ms i y in
-    record {
-      sized = plain.size;
-      some = omega (arith, r.some, ap length same);
-      short = plain.short;
-      divides = subst (λ n. 14400 % n ≡ 0) long fit.divides;
-      serves = (i, omega arith, sym (get_or-take e.length e.marks i false (omega arith)) ∙ y);
-    }
+marks_fit : (e : Engine) → InRange (slot Marks' (mark_bytes (marked e.marks))) → Fit e.marks
+marks_fit e r =
+    let same : marked e.marks ≡ ones (mark_bytes (marked e.marks)) = marks_same (marked e.marks) (ones (mark_bytes (marked e.marks))) (marks_written (mark_bytes (marked e.marks)) (marked_any (mark_bytes (marked e.marks)) r)) in
+    fit_from e.marks (mark_bytes (marked e.marks)) same r
 
-engines_fit : (es : List Engine) → AllByRecursion Plain es → AllByRecursion InRange (engines_slots (map said es)) → AllByRecursion (λ t. t ≤ 7) (map (λ (e : Engine). e.tag) es) × AllByRecursion Fit (map marks_in es)
-engines_fit [] plain r = (tt, tt)
-engines_fit (e ∷ es) plain r =
-    let rest = engines_fit es plain.1 r.1.1 in
-    ((tag_small e.tag r.0, rest.0), (marks_fit e plain.0 r.1.0, rest.1))
+tags_fit : (es : List Engine) → AllByRecursion InRange (engines_slots (map said es)) → AllByRecursion (λ t. t ≤ 7) (map (λ (e : Engine). e.tag) es)
+tags_fit [] r = tt
+tags_fit (e ∷ es) r = (tag_small e.tag r.0, tags_fit es r.1.1)
 
-count_some : (n : ℕ) → InRange (slot Engines 0 (decimal n)) → 1 ≤ n
+all_fit : (es : List Engine) → AllByRecursion InRange (engines_slots (map said es)) → AllByRecursion Fit (map (λ (e : Engine). e.marks) es)
+all_fit [] r = tt
+all_fit (e ∷ es) r = (marks_fit e r.1.0, all_fit es r.1.1)
+
+count_some : (n : ℕ) → InRange (slot Engines (decimal n)) → 1 ≤ n
 count_some n r = omega (arith, decimal_numeral n r.0 r.1, leb-true 1 r.0 (and_parts (leb 1 r.0) (leb r.0 16) r.2).0)
 
-pub plain_all : (p : Platform) → Described p → AllByRecursion Plain (take p.count p.engines)
-plain_all p d =
-    All-from_get_or Plain (take p.count p.engines) blank (λ i below.
-    let inside : i < p.count = omega (arith, length-take p.count p.engines) in
-    subst Plain (sym (get_or-take p.count p.engines i blank inside)) (d.plain i inside))
-
-pub platform_fits : (text : List ℕ) (p : Platform) → Reads text p → Rostered (map (λ (e : Engine). e.tag) (take p.count p.engines)) × AllByRecursion Fit (map marks_in (take p.count p.engines))
+pub platform_fits : (text : List ℕ) (p : Platform) → Reads text p → (length (items p.engines) ≤ 16) × Rostered (map (λ (e : Engine). e.tag) (items p.engines)) × All Fit (map (λ (e : Engine). e.marks) (items p.engines))
 platform_fits text p reads =
-    let es = take p.count p.engines in
-    let fit = engines_fit es (plain_all p reads.described) reads.whole.ranged.1 in
-    let long = length-map es (λ (e : Engine). e.tag) in
-    let said_long = length-map es said in (
+    let es = items p.engines in
+    let few : length es ≤ 16 = omega (arith, length-take p.engines.len p.engines.places, p.engines.fits) in
+    let long = length-map es (λ (e : Engine). e.tag) in (
+      few,
       record {
-        some = omega (arith, count_some (length (map said es)) reads.whole.ranged.0);
-        few = omega (arith, length-take p.count p.engines, reads.described.few);
-        small = fit.0;
+        some = omega (arith, count_some (length (map said es)) reads.whole.ranged.0, length-map es said);
+        few = omega arith;
+        small = All-from_recursion (λ t. t ≤ 7) _ (tags_fit es reads.whole.ranged.1);
       },
-      fit.1,
+      All-from_recursion Fit _ (all_fit es reads.whole.ranged.1),
     )

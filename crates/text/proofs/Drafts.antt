@@ -6,7 +6,7 @@ use Rattle.task.specs.declared.job.Job.{Job}
 use Rattle.task.specs.declared.node.Node.{Node}
 use Rattle.task.specs.Flaws.{HeaderFits, InRange, MadeOf}
 use Rattle.task.specs.Graph.{Upward}
-use Rattle.task.specs.Node.{after, blank, missing}
+use Rattle.task.specs.Node.{after, missing}
 use Rattle.text.specs.declared.fault.Fault.{Fault}
 use Rattle.text.specs.declared.fault.Fault.TheVariants.{Size, Line, Form, Range, Fork, Forks}
 use Rattle.text.specs.declared.job_text.Header.{Header}
@@ -24,8 +24,8 @@ slots_draft h ns e = ap (λ c. header_slots (record { number = h.number; period 
 
 pub header_halts : (h : Header) (bs : List ℕ) (f : Fault) → Stops (header_slots h) bs 0 f → (w : Written) × Halts (slots w) bs f
 header_halts h bs f stop =
-    let ns = replicate h.count blank in
-    (draft h ns, inl (subst (λ ss. Stops ss bs 0 f) (slots_draft h ns (length-replicate h.count blank)) (stops_more (header_slots h) (nodes_slots 0 ns) bs 0 f stop)))
+    let ns = replicate h.count missing in
+    (draft h ns, inl (subst (λ ss. Stops ss bs 0 f) (slots_draft h ns (length-replicate h.count missing)) (stops_more (header_slots h) (nodes_slots 0 ns) bs 0 f stop)))
 
 pub nodes_halt : (h : Header) (ns : List Node) (bs cs : List ℕ) (c : ℕ) (f : Fault) → length ns ≡ h.count → Took (header_slots h) bs 0 cs c → Stops (nodes_slots 0 ns) cs c f → (w : Written) × Halts (slots w) bs f
 nodes_halt h ns bs cs c f e took stop =

@@ -56,7 +56,7 @@ dash_alone : (n : ℕ) (ns : List ℕ) → 45 ∷ [] ≡ commas (n ∷ ns) → �
 dash_alone n [] e = let none = subst (Lacks 45) (sym e) (lacks_any 45 (omega arith) n) in none.0 refl
 dash_alone n (m ∷ ns) e = omega (arith, ap length e, length-append (decimal n) (44 ∷ commas (m ∷ ns)), decimal_some n, commas_some m ns)
 
-listed_same : (ns ms : List ℕ) → AllByRecursion Small ms → listed ns ≡ listed ms → ns ≡ ms
+pub listed_same : (ns ms : List ℕ) → AllByRecursion Small ms → listed ns ≡ listed ms → ns ≡ ms
 listed_same [] [] s e = refl
 listed_same [] (m ∷ ms) s e = absurd (dash_alone m ms e)
 listed_same (n ∷ ns) [] s e = absurd (dash_alone n ns (sym e))

@@ -32,70 +32,70 @@ breaks_halts ss bs f (inl stop) = breaks_stops ss bs 0 f stop
 breaks_halts ss bs f (inr over) = breaks_overruns ss bs 0 f over
 
 clash_after : (v : ℕ) (us ws : List Bool) (ss ts : List Slot) → ((cs : List ℕ) → Runs ss cs → Breaks ts cs → ⊥) → (bs : List ℕ)
-    → Runs (slot keys.TheVariants.After v (listed (places us)) ∷ ss) bs → Breaks (slot keys.TheVariants.After v (listed (places ws)) ∷ ts) bs → ⊥
-clash_after v us ws ss ts later bs = clash_step keys.TheVariants.After v (listed (places us)) (listed (places ws)) ss ts (λ cs _ _ _ run break. later cs run break) bs
+    → Runs (slot (keys.TheVariants.After v) (listed (places us)) ∷ ss) bs → Breaks (slot (keys.TheVariants.After v) (listed (places ws)) ∷ ts) bs → ⊥
+clash_after v us ws ss ts later bs = clash_step (keys.TheVariants.After v) (listed (places us)) (listed (places ws)) ss ts (λ cs _ _ _ run break. later cs run break) bs
 
 clash_nodes : (v : ℕ) (ns ms : List Node) → length ns ≡ length ms → (bs : List ℕ) → Runs (nodes_slots v ns) bs → Breaks (nodes_slots v ms) bs → ⊥
 clash_nodes v [] [] e bs run break = omega (arith, ap length run)
 clash_nodes v [] (m ∷ ms) e bs run break = omega arith
 clash_nodes v (n ∷ ns) [] e bs run break = omega arith
 clash_nodes v (SubTask t w us ∷ ns) (SubTask t' w' us' ∷ ms) e bs run break =
-    clash_step keys.TheVariants.Kind 0 (word kinds.TheVariants.SubTask) (word kinds.TheVariants.SubTask)
-    (slot keys.TheVariants.Tag 0 (decimal t) ∷ slot keys.TheVariants.Ticks 0 (decimal w) ∷ slot keys.TheVariants.After v (listed (places us)) ∷ nodes_slots (suc v) ns)
-    (slot keys.TheVariants.Tag 0 (decimal t') ∷ slot keys.TheVariants.Ticks 0 (decimal w') ∷ slot keys.TheVariants.After v (listed (places us')) ∷ nodes_slots (suc v) ms)
+    clash_step keys.TheVariants.Kind (word kinds.TheVariants.SubTask) (word kinds.TheVariants.SubTask)
+    (slot keys.TheVariants.Tag (decimal t) ∷ slot keys.TheVariants.Ticks (decimal w) ∷ slot (keys.TheVariants.After v) (listed (places us)) ∷ nodes_slots (suc v) ns)
+    (slot keys.TheVariants.Tag (decimal t') ∷ slot keys.TheVariants.Ticks (decimal w') ∷ slot (keys.TheVariants.After v) (listed (places us')) ∷ nodes_slots (suc v) ms)
     (λ cs _ _ _ run break.
-    clash_step keys.TheVariants.Tag 0 (decimal t) (decimal t')
-    (slot keys.TheVariants.Ticks 0 (decimal w) ∷ slot keys.TheVariants.After v (listed (places us)) ∷ nodes_slots (suc v) ns)
-    (slot keys.TheVariants.Ticks 0 (decimal w') ∷ slot keys.TheVariants.After v (listed (places us')) ∷ nodes_slots (suc v) ms)
+    clash_step keys.TheVariants.Tag (decimal t) (decimal t')
+    (slot keys.TheVariants.Ticks (decimal w) ∷ slot (keys.TheVariants.After v) (listed (places us)) ∷ nodes_slots (suc v) ns)
+    (slot keys.TheVariants.Ticks (decimal w') ∷ slot (keys.TheVariants.After v) (listed (places us')) ∷ nodes_slots (suc v) ms)
     (λ cs _ _ _ run break.
-    clash_step keys.TheVariants.Ticks 0 (decimal w) (decimal w')
-    (slot keys.TheVariants.After v (listed (places us)) ∷ nodes_slots (suc v) ns)
-    (slot keys.TheVariants.After v (listed (places us')) ∷ nodes_slots (suc v) ms)
+    clash_step keys.TheVariants.Ticks (decimal w) (decimal w')
+    (slot (keys.TheVariants.After v) (listed (places us)) ∷ nodes_slots (suc v) ns)
+    (slot (keys.TheVariants.After v) (listed (places us')) ∷ nodes_slots (suc v) ms)
     (λ cs _ _ _ run break. clash_after v us us' (nodes_slots (suc v) ns) (nodes_slots (suc v) ms) (clash_nodes (suc v) ns ms (omega arith)) cs run break) cs run break) cs run break) bs run break
 clash_nodes v (Alternative us ∷ ns) (Alternative us' ∷ ms) e bs run break =
-    clash_step keys.TheVariants.Kind 0 (word kinds.TheVariants.Alternative) (word kinds.TheVariants.Alternative)
-    (slot keys.TheVariants.After v (listed (places us)) ∷ nodes_slots (suc v) ns) (slot keys.TheVariants.After v (listed (places us')) ∷ nodes_slots (suc v) ms)
+    clash_step keys.TheVariants.Kind (word kinds.TheVariants.Alternative) (word kinds.TheVariants.Alternative)
+    (slot (keys.TheVariants.After v) (listed (places us)) ∷ nodes_slots (suc v) ns) (slot (keys.TheVariants.After v) (listed (places us')) ∷ nodes_slots (suc v) ms)
     (λ cs _ _ _ run break. clash_after v us us' (nodes_slots (suc v) ns) (nodes_slots (suc v) ms) (clash_nodes (suc v) ns ms (omega arith)) cs run break) bs run break
 clash_nodes v (Conditional us ∷ ns) (Conditional us' ∷ ms) e bs run break =
-    clash_step keys.TheVariants.Kind 0 (word kinds.TheVariants.Conditional) (word kinds.TheVariants.Conditional)
-    (slot keys.TheVariants.After v (listed (places us)) ∷ nodes_slots (suc v) ns) (slot keys.TheVariants.After v (listed (places us')) ∷ nodes_slots (suc v) ms)
+    clash_step keys.TheVariants.Kind (word kinds.TheVariants.Conditional) (word kinds.TheVariants.Conditional)
+    (slot (keys.TheVariants.After v) (listed (places us)) ∷ nodes_slots (suc v) ns) (slot (keys.TheVariants.After v) (listed (places us')) ∷ nodes_slots (suc v) ms)
     (λ cs _ _ _ run break. clash_after v us us' (nodes_slots (suc v) ns) (nodes_slots (suc v) ms) (clash_nodes (suc v) ns ms (omega arith)) cs run break) bs run break
 clash_nodes v (SubTask t w us ∷ ns) (Alternative us' ∷ ms) e bs run break =
-    clash_step keys.TheVariants.Kind 0 (word kinds.TheVariants.SubTask) (word kinds.TheVariants.Alternative) (slot keys.TheVariants.Tag 0 (decimal t) ∷ slot keys.TheVariants.Ticks 0 (decimal w) ∷ slot keys.TheVariants.After v (listed (places us)) ∷ nodes_slots (suc v) ns) (slot keys.TheVariants.After v (listed (places us')) ∷ nodes_slots (suc v) ms)
+    clash_step keys.TheVariants.Kind (word kinds.TheVariants.SubTask) (word kinds.TheVariants.Alternative) (slot keys.TheVariants.Tag (decimal t) ∷ slot keys.TheVariants.Ticks (decimal w) ∷ slot (keys.TheVariants.After v) (listed (places us)) ∷ nodes_slots (suc v) ns) (slot (keys.TheVariants.After v) (listed (places us')) ∷ nodes_slots (suc v) ms)
     (λ cs same _ _ _ _. word_apart (word kinds.TheVariants.SubTask) (word kinds.TheVariants.Alternative) same (λ z. omega arith)) bs run break
 clash_nodes v (SubTask t w us ∷ ns) (Conditional us' ∷ ms) e bs run break =
-    clash_step keys.TheVariants.Kind 0 (word kinds.TheVariants.SubTask) (word kinds.TheVariants.Conditional) (slot keys.TheVariants.Tag 0 (decimal t) ∷ slot keys.TheVariants.Ticks 0 (decimal w) ∷ slot keys.TheVariants.After v (listed (places us)) ∷ nodes_slots (suc v) ns) (slot keys.TheVariants.After v (listed (places us')) ∷ nodes_slots (suc v) ms)
+    clash_step keys.TheVariants.Kind (word kinds.TheVariants.SubTask) (word kinds.TheVariants.Conditional) (slot keys.TheVariants.Tag (decimal t) ∷ slot keys.TheVariants.Ticks (decimal w) ∷ slot (keys.TheVariants.After v) (listed (places us)) ∷ nodes_slots (suc v) ns) (slot (keys.TheVariants.After v) (listed (places us')) ∷ nodes_slots (suc v) ms)
     (λ cs same _ _ _ _. word_apart (word kinds.TheVariants.SubTask) (word kinds.TheVariants.Conditional) same (λ z. omega arith)) bs run break
 clash_nodes v (Alternative us ∷ ns) (SubTask t' w' us' ∷ ms) e bs run break =
-    clash_step keys.TheVariants.Kind 0 (word kinds.TheVariants.Alternative) (word kinds.TheVariants.SubTask) (slot keys.TheVariants.After v (listed (places us)) ∷ nodes_slots (suc v) ns) (slot keys.TheVariants.Tag 0 (decimal t') ∷ slot keys.TheVariants.Ticks 0 (decimal w') ∷ slot keys.TheVariants.After v (listed (places us')) ∷ nodes_slots (suc v) ms)
+    clash_step keys.TheVariants.Kind (word kinds.TheVariants.Alternative) (word kinds.TheVariants.SubTask) (slot (keys.TheVariants.After v) (listed (places us)) ∷ nodes_slots (suc v) ns) (slot keys.TheVariants.Tag (decimal t') ∷ slot keys.TheVariants.Ticks (decimal w') ∷ slot (keys.TheVariants.After v) (listed (places us')) ∷ nodes_slots (suc v) ms)
     (λ cs same _ _ _ _. word_apart (word kinds.TheVariants.Alternative) (word kinds.TheVariants.SubTask) same (λ z. omega arith)) bs run break
 clash_nodes v (Alternative us ∷ ns) (Conditional us' ∷ ms) e bs run break =
-    clash_step keys.TheVariants.Kind 0 (word kinds.TheVariants.Alternative) (word kinds.TheVariants.Conditional) (slot keys.TheVariants.After v (listed (places us)) ∷ nodes_slots (suc v) ns) (slot keys.TheVariants.After v (listed (places us')) ∷ nodes_slots (suc v) ms)
+    clash_step keys.TheVariants.Kind (word kinds.TheVariants.Alternative) (word kinds.TheVariants.Conditional) (slot (keys.TheVariants.After v) (listed (places us)) ∷ nodes_slots (suc v) ns) (slot (keys.TheVariants.After v) (listed (places us')) ∷ nodes_slots (suc v) ms)
     (λ cs same _ _ _ _. word_apart (word kinds.TheVariants.Alternative) (word kinds.TheVariants.Conditional) same (λ z. omega arith)) bs run break
 clash_nodes v (Conditional us ∷ ns) (SubTask t' w' us' ∷ ms) e bs run break =
-    clash_step keys.TheVariants.Kind 0 (word kinds.TheVariants.Conditional) (word kinds.TheVariants.SubTask) (slot keys.TheVariants.After v (listed (places us)) ∷ nodes_slots (suc v) ns) (slot keys.TheVariants.Tag 0 (decimal t') ∷ slot keys.TheVariants.Ticks 0 (decimal w') ∷ slot keys.TheVariants.After v (listed (places us')) ∷ nodes_slots (suc v) ms)
+    clash_step keys.TheVariants.Kind (word kinds.TheVariants.Conditional) (word kinds.TheVariants.SubTask) (slot (keys.TheVariants.After v) (listed (places us)) ∷ nodes_slots (suc v) ns) (slot keys.TheVariants.Tag (decimal t') ∷ slot keys.TheVariants.Ticks (decimal w') ∷ slot (keys.TheVariants.After v) (listed (places us')) ∷ nodes_slots (suc v) ms)
     (λ cs same _ _ _ _. word_apart (word kinds.TheVariants.Conditional) (word kinds.TheVariants.SubTask) same (λ z. omega arith)) bs run break
 clash_nodes v (Conditional us ∷ ns) (Alternative us' ∷ ms) e bs run break =
-    clash_step keys.TheVariants.Kind 0 (word kinds.TheVariants.Conditional) (word kinds.TheVariants.Alternative) (slot keys.TheVariants.After v (listed (places us)) ∷ nodes_slots (suc v) ns) (slot keys.TheVariants.After v (listed (places us')) ∷ nodes_slots (suc v) ms)
+    clash_step keys.TheVariants.Kind (word kinds.TheVariants.Conditional) (word kinds.TheVariants.Alternative) (slot (keys.TheVariants.After v) (listed (places us)) ∷ nodes_slots (suc v) ns) (slot (keys.TheVariants.After v) (listed (places us')) ∷ nodes_slots (suc v) ms)
     (λ cs same _ _ _ _. word_apart (word kinds.TheVariants.Conditional) (word kinds.TheVariants.Alternative) same (λ z. omega arith)) bs run break
 
 abbrev from_nodes : Written → List Slot
-from_nodes w = slot keys.TheVariants.Nodes 0 (decimal (length w.nodes)) ∷ nodes_slots 0 w.nodes
+from_nodes w = slot keys.TheVariants.Nodes (decimal (length w.nodes)) ∷ nodes_slots 0 w.nodes
 
 abbrev from_deadline : Written → ℕ → List Slot
-from_deadline w period = slot keys.TheVariants.Deadline period (decimal w.deadline) ∷ from_nodes w
+from_deadline w period = slot (keys.TheVariants.Deadline period) (decimal w.deadline) ∷ from_nodes w
 
 abbrev from_period : Written → List Slot
-from_period w = slot keys.TheVariants.Period 0 (decimal w.period) ∷ from_deadline w w.period
+from_period w = slot keys.TheVariants.Period (decimal w.period) ∷ from_deadline w w.period
 
 clash_slots : (w x : Written) (bs : List ℕ) → Runs (slots w) bs → Breaks (slots x) bs → ⊥
 clash_slots w x =
-    clash_step keys.TheVariants.Job 0 (decimal w.number) (decimal x.number) (from_period w) (from_period x)
-    (λ cs _ _ _ run break. clash_step keys.TheVariants.Period 0 (decimal w.period) (decimal x.period) (from_deadline w w.period) (from_deadline x x.period)
+    clash_step keys.TheVariants.Job (decimal w.number) (decimal x.number) (from_period w) (from_period x)
+    (λ cs _ _ _ run break. clash_step keys.TheVariants.Period (decimal w.period) (decimal x.period) (from_deadline w w.period) (from_deadline x x.period)
     (λ cs e r q run break.
     let same = numbers_same w.period x.period q.0 e q.1 in
-    clash_step keys.TheVariants.Deadline w.period (decimal w.deadline) (decimal x.deadline) (from_nodes w) (from_nodes x)
-    (λ cs _ _ _ run break. clash_step keys.TheVariants.Nodes 0 (decimal (length w.nodes)) (decimal (length x.nodes)) (nodes_slots 0 w.nodes) (nodes_slots 0 x.nodes)
+    clash_step (keys.TheVariants.Deadline w.period) (decimal w.deadline) (decimal x.deadline) (from_nodes w) (from_nodes x)
+    (λ cs _ _ _ run break. clash_step keys.TheVariants.Nodes (decimal (length w.nodes)) (decimal (length x.nodes)) (nodes_slots 0 w.nodes) (nodes_slots 0 x.nodes)
     (λ cs e r q run break. clash_nodes 0 w.nodes x.nodes (numbers_same (length w.nodes) (length x.nodes) q.0 e q.1) cs run break) cs run break)
     cs run (subst (λ p. Breaks (from_deadline x p) cs) (sym same) break))
     cs run break)
@@ -112,7 +112,7 @@ record Alike (n m : Node) : Type 0 where
   pub conditionals : is_conditional n ≡ is_conditional m
   pub edges : (u : ℕ) → get_or (after n) u false ≡ get_or (after m) u false
 
-after_same : (v : ℕ) (us ws : List Bool) → listed (places us) ≡ listed (places ws) → Ranged keys.TheVariants.After v (listed (places ws)) → (u : ℕ) → get_or us u false ≡ get_or ws u false
+after_same : (v : ℕ) (us ws : List Bool) → listed (places us) ≡ listed (places ws) → Ranged (keys.TheVariants.After v) (listed (places ws)) → (u : ℕ) → get_or us u false ≡ get_or ws u false
 after_same v us ws e q = set_same us ws q.numbers q.small q.written e
 
 match_nodes : (v : ℕ) (ns ms : List Node) → length ns ≡ length ms → (bs : List ℕ) → Runs (nodes_slots v ns) bs → Runs (nodes_slots v ms) bs → (i : ℕ) → Alike (at ns i) (at ms i)
@@ -120,53 +120,53 @@ match_nodes v [] [] e bs run other i = record { forks = refl; alternatives = ref
 match_nodes v [] (m ∷ ms) e bs run other i = absurd (omega arith)
 match_nodes v (n ∷ ns) [] e bs run other i = absurd (omega arith)
 match_nodes v (SubTask t w us ∷ ns) (SubTask t' w' us' ∷ ms) e bs run other i =
-    let a = match_step keys.TheVariants.Kind 0 (word kinds.TheVariants.SubTask) (word kinds.TheVariants.SubTask)
-    (slot keys.TheVariants.Tag 0 (decimal t) ∷ slot keys.TheVariants.Ticks 0 (decimal w) ∷ slot keys.TheVariants.After v (listed (places us)) ∷ nodes_slots (suc v) ns)
-    (slot keys.TheVariants.Tag 0 (decimal t') ∷ slot keys.TheVariants.Ticks 0 (decimal w') ∷ slot keys.TheVariants.After v (listed (places us')) ∷ nodes_slots (suc v) ms) bs run other in
-    let b = match_step keys.TheVariants.Tag 0 (decimal t) (decimal t')
-    (slot keys.TheVariants.Ticks 0 (decimal w) ∷ slot keys.TheVariants.After v (listed (places us)) ∷ nodes_slots (suc v) ns)
-    (slot keys.TheVariants.Ticks 0 (decimal w') ∷ slot keys.TheVariants.After v (listed (places us')) ∷ nodes_slots (suc v) ms) a.0 a.4 a.5 in
-    let c = match_step keys.TheVariants.Ticks 0 (decimal w) (decimal w')
-    (slot keys.TheVariants.After v (listed (places us)) ∷ nodes_slots (suc v) ns) (slot keys.TheVariants.After v (listed (places us')) ∷ nodes_slots (suc v) ms) b.0 b.4 b.5 in
-    let d = match_step keys.TheVariants.After v (listed (places us)) (listed (places us')) (nodes_slots (suc v) ns) (nodes_slots (suc v) ms) c.0 c.4 c.5 in
+    let a = match_step keys.TheVariants.Kind (word kinds.TheVariants.SubTask) (word kinds.TheVariants.SubTask)
+    (slot keys.TheVariants.Tag (decimal t) ∷ slot keys.TheVariants.Ticks (decimal w) ∷ slot (keys.TheVariants.After v) (listed (places us)) ∷ nodes_slots (suc v) ns)
+    (slot keys.TheVariants.Tag (decimal t') ∷ slot keys.TheVariants.Ticks (decimal w') ∷ slot (keys.TheVariants.After v) (listed (places us')) ∷ nodes_slots (suc v) ms) bs run other in
+    let b = match_step keys.TheVariants.Tag (decimal t) (decimal t')
+    (slot keys.TheVariants.Ticks (decimal w) ∷ slot (keys.TheVariants.After v) (listed (places us)) ∷ nodes_slots (suc v) ns)
+    (slot keys.TheVariants.Ticks (decimal w') ∷ slot (keys.TheVariants.After v) (listed (places us')) ∷ nodes_slots (suc v) ms) a.0 a.4 a.5 in
+    let c = match_step keys.TheVariants.Ticks (decimal w) (decimal w')
+    (slot (keys.TheVariants.After v) (listed (places us)) ∷ nodes_slots (suc v) ns) (slot (keys.TheVariants.After v) (listed (places us')) ∷ nodes_slots (suc v) ms) b.0 b.4 b.5 in
+    let d = match_step (keys.TheVariants.After v) (listed (places us)) (listed (places us')) (nodes_slots (suc v) ns) (nodes_slots (suc v) ms) c.0 c.4 c.5 in
     elim i as (λ k. Alike (at (SubTask t w us ∷ ns) k) (at (SubTask t' w' us' ∷ ms) k)) [
       | zero ↦ record { forks = refl; alternatives = refl; conditionals = refl; edges = after_same v us us' d.1 d.3 }
       | suc k ↦ match_nodes (suc v) ns ms (omega arith) d.0 d.4 d.5 k
     ]
 match_nodes v (Alternative us ∷ ns) (Alternative us' ∷ ms) e bs run other i =
-    let a = match_step keys.TheVariants.Kind 0 (word kinds.TheVariants.Alternative) (word kinds.TheVariants.Alternative)
-    (slot keys.TheVariants.After v (listed (places us)) ∷ nodes_slots (suc v) ns) (slot keys.TheVariants.After v (listed (places us')) ∷ nodes_slots (suc v) ms) bs run other in
-    let d = match_step keys.TheVariants.After v (listed (places us)) (listed (places us')) (nodes_slots (suc v) ns) (nodes_slots (suc v) ms) a.0 a.4 a.5 in
+    let a = match_step keys.TheVariants.Kind (word kinds.TheVariants.Alternative) (word kinds.TheVariants.Alternative)
+    (slot (keys.TheVariants.After v) (listed (places us)) ∷ nodes_slots (suc v) ns) (slot (keys.TheVariants.After v) (listed (places us')) ∷ nodes_slots (suc v) ms) bs run other in
+    let d = match_step (keys.TheVariants.After v) (listed (places us)) (listed (places us')) (nodes_slots (suc v) ns) (nodes_slots (suc v) ms) a.0 a.4 a.5 in
     elim i as (λ k. Alike (at (Alternative us ∷ ns) k) (at (Alternative us' ∷ ms) k)) [
       | zero ↦ record { forks = refl; alternatives = refl; conditionals = refl; edges = after_same v us us' d.1 d.3 }
       | suc k ↦ match_nodes (suc v) ns ms (omega arith) d.0 d.4 d.5 k
     ]
 match_nodes v (Conditional us ∷ ns) (Conditional us' ∷ ms) e bs run other i =
-    let a = match_step keys.TheVariants.Kind 0 (word kinds.TheVariants.Conditional) (word kinds.TheVariants.Conditional)
-    (slot keys.TheVariants.After v (listed (places us)) ∷ nodes_slots (suc v) ns) (slot keys.TheVariants.After v (listed (places us')) ∷ nodes_slots (suc v) ms) bs run other in
-    let d = match_step keys.TheVariants.After v (listed (places us)) (listed (places us')) (nodes_slots (suc v) ns) (nodes_slots (suc v) ms) a.0 a.4 a.5 in
+    let a = match_step keys.TheVariants.Kind (word kinds.TheVariants.Conditional) (word kinds.TheVariants.Conditional)
+    (slot (keys.TheVariants.After v) (listed (places us)) ∷ nodes_slots (suc v) ns) (slot (keys.TheVariants.After v) (listed (places us')) ∷ nodes_slots (suc v) ms) bs run other in
+    let d = match_step (keys.TheVariants.After v) (listed (places us)) (listed (places us')) (nodes_slots (suc v) ns) (nodes_slots (suc v) ms) a.0 a.4 a.5 in
     elim i as (λ k. Alike (at (Conditional us ∷ ns) k) (at (Conditional us' ∷ ms) k)) [
       | zero ↦ record { forks = refl; alternatives = refl; conditionals = refl; edges = after_same v us us' d.1 d.3 }
       | suc k ↦ match_nodes (suc v) ns ms (omega arith) d.0 d.4 d.5 k
     ]
 match_nodes v (SubTask t w us ∷ ns) (Alternative us' ∷ ms) e bs run other i =
     absurd (word_apart (word kinds.TheVariants.SubTask) (word kinds.TheVariants.Alternative)
-    (match_step keys.TheVariants.Kind 0 (word kinds.TheVariants.SubTask) (word kinds.TheVariants.Alternative) (slot keys.TheVariants.Tag 0 (decimal t) ∷ slot keys.TheVariants.Ticks 0 (decimal w) ∷ slot keys.TheVariants.After v (listed (places us)) ∷ nodes_slots (suc v) ns) (slot keys.TheVariants.After v (listed (places us')) ∷ nodes_slots (suc v) ms) bs run other).1 (λ z. omega arith))
+    (match_step keys.TheVariants.Kind (word kinds.TheVariants.SubTask) (word kinds.TheVariants.Alternative) (slot keys.TheVariants.Tag (decimal t) ∷ slot keys.TheVariants.Ticks (decimal w) ∷ slot (keys.TheVariants.After v) (listed (places us)) ∷ nodes_slots (suc v) ns) (slot (keys.TheVariants.After v) (listed (places us')) ∷ nodes_slots (suc v) ms) bs run other).1 (λ z. omega arith))
 match_nodes v (SubTask t w us ∷ ns) (Conditional us' ∷ ms) e bs run other i =
     absurd (word_apart (word kinds.TheVariants.SubTask) (word kinds.TheVariants.Conditional)
-    (match_step keys.TheVariants.Kind 0 (word kinds.TheVariants.SubTask) (word kinds.TheVariants.Conditional) (slot keys.TheVariants.Tag 0 (decimal t) ∷ slot keys.TheVariants.Ticks 0 (decimal w) ∷ slot keys.TheVariants.After v (listed (places us)) ∷ nodes_slots (suc v) ns) (slot keys.TheVariants.After v (listed (places us')) ∷ nodes_slots (suc v) ms) bs run other).1 (λ z. omega arith))
+    (match_step keys.TheVariants.Kind (word kinds.TheVariants.SubTask) (word kinds.TheVariants.Conditional) (slot keys.TheVariants.Tag (decimal t) ∷ slot keys.TheVariants.Ticks (decimal w) ∷ slot (keys.TheVariants.After v) (listed (places us)) ∷ nodes_slots (suc v) ns) (slot (keys.TheVariants.After v) (listed (places us')) ∷ nodes_slots (suc v) ms) bs run other).1 (λ z. omega arith))
 match_nodes v (Alternative us ∷ ns) (SubTask t' w' us' ∷ ms) e bs run other i =
     absurd (word_apart (word kinds.TheVariants.Alternative) (word kinds.TheVariants.SubTask)
-    (match_step keys.TheVariants.Kind 0 (word kinds.TheVariants.Alternative) (word kinds.TheVariants.SubTask) (slot keys.TheVariants.After v (listed (places us)) ∷ nodes_slots (suc v) ns) (slot keys.TheVariants.Tag 0 (decimal t') ∷ slot keys.TheVariants.Ticks 0 (decimal w') ∷ slot keys.TheVariants.After v (listed (places us')) ∷ nodes_slots (suc v) ms) bs run other).1 (λ z. omega arith))
+    (match_step keys.TheVariants.Kind (word kinds.TheVariants.Alternative) (word kinds.TheVariants.SubTask) (slot (keys.TheVariants.After v) (listed (places us)) ∷ nodes_slots (suc v) ns) (slot keys.TheVariants.Tag (decimal t') ∷ slot keys.TheVariants.Ticks (decimal w') ∷ slot (keys.TheVariants.After v) (listed (places us')) ∷ nodes_slots (suc v) ms) bs run other).1 (λ z. omega arith))
 match_nodes v (Alternative us ∷ ns) (Conditional us' ∷ ms) e bs run other i =
     absurd (word_apart (word kinds.TheVariants.Alternative) (word kinds.TheVariants.Conditional)
-    (match_step keys.TheVariants.Kind 0 (word kinds.TheVariants.Alternative) (word kinds.TheVariants.Conditional) (slot keys.TheVariants.After v (listed (places us)) ∷ nodes_slots (suc v) ns) (slot keys.TheVariants.After v (listed (places us')) ∷ nodes_slots (suc v) ms) bs run other).1 (λ z. omega arith))
+    (match_step keys.TheVariants.Kind (word kinds.TheVariants.Alternative) (word kinds.TheVariants.Conditional) (slot (keys.TheVariants.After v) (listed (places us)) ∷ nodes_slots (suc v) ns) (slot (keys.TheVariants.After v) (listed (places us')) ∷ nodes_slots (suc v) ms) bs run other).1 (λ z. omega arith))
 match_nodes v (Conditional us ∷ ns) (SubTask t' w' us' ∷ ms) e bs run other i =
     absurd (word_apart (word kinds.TheVariants.Conditional) (word kinds.TheVariants.SubTask)
-    (match_step keys.TheVariants.Kind 0 (word kinds.TheVariants.Conditional) (word kinds.TheVariants.SubTask) (slot keys.TheVariants.After v (listed (places us)) ∷ nodes_slots (suc v) ns) (slot keys.TheVariants.Tag 0 (decimal t') ∷ slot keys.TheVariants.Ticks 0 (decimal w') ∷ slot keys.TheVariants.After v (listed (places us')) ∷ nodes_slots (suc v) ms) bs run other).1 (λ z. omega arith))
+    (match_step keys.TheVariants.Kind (word kinds.TheVariants.Conditional) (word kinds.TheVariants.SubTask) (slot (keys.TheVariants.After v) (listed (places us)) ∷ nodes_slots (suc v) ns) (slot keys.TheVariants.Tag (decimal t') ∷ slot keys.TheVariants.Ticks (decimal w') ∷ slot (keys.TheVariants.After v) (listed (places us')) ∷ nodes_slots (suc v) ms) bs run other).1 (λ z. omega arith))
 match_nodes v (Conditional us ∷ ns) (Alternative us' ∷ ms) e bs run other i =
     absurd (word_apart (word kinds.TheVariants.Conditional) (word kinds.TheVariants.Alternative)
-    (match_step keys.TheVariants.Kind 0 (word kinds.TheVariants.Conditional) (word kinds.TheVariants.Alternative) (slot keys.TheVariants.After v (listed (places us)) ∷ nodes_slots (suc v) ns) (slot keys.TheVariants.After v (listed (places us')) ∷ nodes_slots (suc v) ms) bs run other).1 (λ z. omega arith))
+    (match_step keys.TheVariants.Kind (word kinds.TheVariants.Conditional) (word kinds.TheVariants.Alternative) (slot (keys.TheVariants.After v) (listed (places us)) ∷ nodes_slots (suc v) ns) (slot (keys.TheVariants.After v) (listed (places us')) ∷ nodes_slots (suc v) ms) bs run other).1 (λ z. omega arith))
 
 count_same : (p q : ℕ → Bool) → ((k : ℕ) → p k ≡ q k) → (n : ℕ) → count_below p n ≡ count_below q n
 count_same p q same zero = refl
@@ -189,11 +189,11 @@ module _ (ns ms : List Node) (long : length ns ≡ length ms) (alike : (i : ℕ)
 
 match_slots : (w x : Written) (bs : List ℕ) → Runs (slots w) bs → Runs (slots x) bs → (length w.nodes ≡ length x.nodes) × ((i : ℕ) → Alike (at w.nodes i) (at x.nodes i))
 match_slots w x bs run other =
-    let a = match_step keys.TheVariants.Job 0 (decimal w.number) (decimal x.number) (from_period w) (from_period x) bs run other in
-    let b = match_step keys.TheVariants.Period 0 (decimal w.period) (decimal x.period) (from_deadline w w.period) (from_deadline x x.period) a.0 a.4 a.5 in
+    let a = match_step keys.TheVariants.Job (decimal w.number) (decimal x.number) (from_period w) (from_period x) bs run other in
+    let b = match_step keys.TheVariants.Period (decimal w.period) (decimal x.period) (from_deadline w w.period) (from_deadline x x.period) a.0 a.4 a.5 in
     let same = numbers_same w.period x.period b.3.0 b.1 b.3.1 in
-    let c = match_step keys.TheVariants.Deadline w.period (decimal w.deadline) (decimal x.deadline) (from_nodes w) (from_nodes x) b.0 b.4 (subst (λ p. Runs (from_deadline x p) b.0) (sym same) b.5) in
-    let d = match_step keys.TheVariants.Nodes 0 (decimal (length w.nodes)) (decimal (length x.nodes)) (nodes_slots 0 w.nodes) (nodes_slots 0 x.nodes) c.0 c.4 c.5 in
+    let c = match_step (keys.TheVariants.Deadline w.period) (decimal w.deadline) (decimal x.deadline) (from_nodes w) (from_nodes x) b.0 b.4 (subst (λ p. Runs (from_deadline x p) b.0) (sym same) b.5) in
+    let d = match_step keys.TheVariants.Nodes (decimal (length w.nodes)) (decimal (length x.nodes)) (nodes_slots 0 w.nodes) (nodes_slots 0 x.nodes) c.0 c.4 c.5 in
     let long = numbers_same (length w.nodes) (length x.nodes) d.3.0 d.1 d.3.1 in
     (long, match_nodes 0 w.nodes x.nodes long d.0 d.4 d.5)
 
@@ -216,15 +216,15 @@ clash_engines [] [] e bs run break = omega (arith, ap length run)
 clash_engines [] (t ∷ ts) e bs run break = omega arith
 clash_engines (s ∷ ss) [] e bs run break = omega arith
 clash_engines (s ∷ ss) (t ∷ ts) e bs run break =
-    clash_step keys.TheVariants.Tag 0 (decimal s.tag) (decimal t.tag)
-    (slot keys.TheVariants.Marks 0 (mark_bytes s.marks) ∷ platform.engines_slots ss) (slot keys.TheVariants.Marks 0 (mark_bytes t.marks) ∷ platform.engines_slots ts)
-    (λ cs _ _ _ run break. clash_step keys.TheVariants.Marks 0 (mark_bytes s.marks) (mark_bytes t.marks) (platform.engines_slots ss) (platform.engines_slots ts)
+    clash_step keys.TheVariants.Tag (decimal s.tag) (decimal t.tag)
+    (slot keys.TheVariants.Marks (mark_bytes s.marks) ∷ platform.engines_slots ss) (slot keys.TheVariants.Marks (mark_bytes t.marks) ∷ platform.engines_slots ts)
+    (λ cs _ _ _ run break. clash_step keys.TheVariants.Marks (mark_bytes s.marks) (mark_bytes t.marks) (platform.engines_slots ss) (platform.engines_slots ts)
     (λ cs _ _ _ run break. clash_engines ss ts (omega arith) cs run break) cs run break) bs run break
 
 -- a platform text that is refused is no platform's
 pub platform_unread : (bs : List ℕ) (f : Fault) (ts : List platform.Said) → Halts (platform.slots ts) bs f → (p : Platform) → platform.Reads bs p → ⊥
 platform_unread bs f ts halts p reads =
     let ss = platform.all_said p in
-    clash_step keys.TheVariants.Engines 0 (decimal (length ss)) (decimal (length ts)) (platform.engines_slots ss) (platform.engines_slots ts)
+    clash_step keys.TheVariants.Engines (decimal (length ss)) (decimal (length ts)) (platform.engines_slots ss) (platform.engines_slots ts)
     (λ cs e r q run break. clash_engines ss ts (numbers_same (length ss) (length ts) q.0 e q.1) cs run break)
     bs (runs_whole (platform.slots ss) bs reads.whole.written reads.whole.ranged) (breaks_halts (platform.slots ts) bs f halts)

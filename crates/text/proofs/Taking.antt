@@ -1,7 +1,7 @@
 -- Lines taken from the front of a text.
-use Rattle.std.proofs.Common.{◌≡◌, ℕ, ◌+◌, ◌≤◌, List, ◌∷◌, ◌++◌, length, sym, refl, ap, ◌∙◌, subst, arith}
+use Rattle.std.proofs.Common.{◌≡◌, ℕ, List, ◌∷◌, ◌++◌, length, sym, refl, ap, ◌∙◌, subst, arith}
 use Rattle.std.proofs.ByRecursion.{All-append, All-drop}
-use Rattle.std.proofs.lemmas.List.{append_assoc, drop_at, length-append}
+use Rattle.std.proofs.lemmas.List.{append_assoc, drop_at}
 use Rattle.text.specs.declared.key.Key.{Key}
 use Rattle.text.specs.declared.key.Key.TheVariants.{Job, Period, Deadline, Nodes, Kind, Tag, Ticks, After, Engines, Marks}
 use Rattle.text.specs.Key.{key_bytes}
@@ -12,12 +12,12 @@ use Rattle.text.proofs.Cuts.{lacks_none, cut_front}
 lacks_key : (k : Key) → Lacks 10 (key_bytes k)
 lacks_key Job = omega arith
 lacks_key Period = omega arith
-lacks_key Deadline = omega arith
+lacks_key (Deadline p) = omega arith
 lacks_key Nodes = omega arith
 lacks_key Kind = omega arith
 lacks_key Tag = omega arith
 lacks_key Ticks = omega arith
-lacks_key After = omega arith
+lacks_key (After v) = omega arith
 lacks_key Engines = omega arith
 lacks_key Marks = omega arith
 
@@ -36,7 +36,3 @@ taken_from k bs front rest value cut e = record {
   ended = subst (Lacks 10) (drop_at (key_bytes k) value (length (key_bytes k)) refl) (All-drop _ (length (key_bytes k)) (key_bytes k ++ value) (subst (Lacks 10) e cut.first));
   written = cut.parts ∙ (ap (λ xs. xs ++ 10 ∷ rest) e ∙ append_assoc (key_bytes k) value (10 ∷ rest));
 }
-
--- a line takes a byte at least
-pub cut_room : (n : ℕ) (bs front rest : List ℕ) → Cut 10 bs front rest → n + length bs ≤ 4096 → (n + 1) + length rest ≤ 4096
-cut_room n bs front rest cut l = omega (arith, ap length cut.parts, length-append front (10 ∷ rest))

@@ -66,20 +66,20 @@ unit_all : (P : ℕ → Type 0) (ns : List ℕ) → AllByRecursion P ns → AllB
 unit_all P [] a = tt
 unit_all P (n ∷ ns) a = (tt, unit_all P ns a.1)
 
-ranged_form : (k : Key) (l : ℕ) (bs : List ℕ) → Ranged k l bs → values.Form (sort_of k) bs
-ranged_form Job l bs r = (r.0, r.1)
-ranged_form Period l bs r = (r.0, r.1)
-ranged_form Deadline l bs r = (r.0, r.1)
-ranged_form Nodes l bs r = (r.0, r.1)
-ranged_form Kind l bs r = r
-ranged_form Tag l bs r = (r.0, r.1)
-ranged_form Ticks l bs r = (r.0, r.1)
-ranged_form After l bs r = record { numbers = r.numbers; rising = r.rising; small = r.small; all = unit_all (λ n. n < l) r.numbers r.all; written = r.written }
-ranged_form Engines l bs r = (r.0, r.1)
-ranged_form Marks l bs r = record { marks = r.marks; some = r.some; written = r.written; all = tt }
+ranged_form : (k : Key) (bs : List ℕ) → Ranged k bs → values.Form (sort_of k) bs
+ranged_form Job bs r = (r.0, r.1)
+ranged_form Period bs r = (r.0, r.1)
+ranged_form (Deadline p) bs r = (r.0, r.1)
+ranged_form Nodes bs r = (r.0, r.1)
+ranged_form Kind bs r = r
+ranged_form Tag bs r = (r.0, r.1)
+ranged_form Ticks bs r = (r.0, r.1)
+ranged_form (After v) bs r = record { numbers = r.numbers; rising = r.rising; small = r.small; all = unit_all (λ n. n < v) r.numbers r.all; written = r.written }
+ranged_form Engines bs r = (r.0, r.1)
+ranged_form Marks bs r = record { marks = r.marks; some = r.some; written = r.written; all = tt }
 
-pub ranged_lacks : (k : Key) (l : ℕ) (bs : List ℕ) → Ranged k l bs → Lacks 10 bs
-ranged_lacks k l bs r = form_lacks (sort_of k) bs (ranged_form k l bs r)
+pub ranged_lacks : (k : Key) (bs : List ℕ) → Ranged k bs → Lacks 10 bs
+ranged_lacks k bs r = form_lacks (sort_of k) bs (ranged_form k bs r)
 
 -- a line of a key can be taken in one way
 taken_same : (k : Key) (bs v cs w ds : List ℕ) → Taken k bs v cs → Taken k bs w ds → (v ≡ w) × (cs ≡ ds)
@@ -93,37 +93,37 @@ Runs [] bs = bs ≡ []
 Runs (s ∷ ss) bs = (cs : List ℕ) × InRange s × (bs ≡ key_bytes s.key ++ (s.value ++ (10 ∷ cs))) × Runs ss cs
 
 -- no line of the key that is in range can be taken
-abbrev pub Broken : Key → ℕ → List ℕ → Type 0
-Broken k l bs = (v cs : List ℕ) → Taken k bs v cs → Ranged k l v → ⊥
+abbrev pub Broken : Key → List ℕ → Type 0
+Broken k bs = (v cs : List ℕ) → Taken k bs v cs → Ranged k v → ⊥
 
 -- the text begins with some of these lines, all in range, and then breaks off
 abbrev pub Breaks : List Slot → List ℕ → Type 0
 Breaks [] bs = 0 < length bs
-Breaks (s ∷ ss) bs = Broken s.key s.limit bs ⊎ ((cs : List ℕ) × InRange s × (bs ≡ key_bytes s.key ++ (s.value ++ (10 ∷ cs))) × Breaks ss cs)
+Breaks (s ∷ ss) bs = Broken s.key bs ⊎ ((cs : List ℕ) × InRange s × (bs ≡ key_bytes s.key ++ (s.value ++ (10 ∷ cs))) × Breaks ss cs)
 
 pub runs_whole : (ss : List Slot) (bs : List ℕ) → bs ≡ text_of ss → AllByRecursion InRange ss → Runs ss bs
 runs_whole [] bs e r = e
 runs_whole (s ∷ ss) bs e r = (text_of ss, r.0, e, runs_whole ss (text_of ss) refl r.1)
 
-fails_broken : (k : Key) (l : ℕ) (bs : List ℕ) (n : ℕ) (f : Fault) → Fails k l bs n f → Broken k l bs
-fails_broken k l bs n Size f v cs t r = absurd f
-fails_broken k l bs n (Line at) f v cs t r = f.1 v cs t
-fails_broken k l bs n (Form at) f v cs t r =
+fails_broken : (k : Key) (bs : List ℕ) (n : ℕ) (f : Fault) → Fails k bs n f → Broken k bs
+fails_broken k bs n Size f v cs t r = absurd f
+fails_broken k bs n (Line at) f v cs t r = f.1 v cs t
+fails_broken k bs n (Form at) f v cs t r =
     let (w, ds, u, no-form) = f.1 in
-    no-form (subst (values.Form (sort_of k)) (taken_same k bs v cs w ds t u).0 (ranged_form k l v r))
-fails_broken k l bs n (Range at) f v cs t r =
+    no-form (subst (values.Form (sort_of k)) (taken_same k bs v cs w ds t u).0 (ranged_form k v r))
+fails_broken k bs n (Range at) f v cs t r =
     let (w, ds, u, form, out) = f.1 in
-    out (subst (Ranged k l) (taken_same k bs v cs w ds t u).0 r)
-fails_broken k l bs n (Fork node) f v cs t r = absurd f
-fails_broken k l bs n Forks f v cs t r = absurd f
+    out (subst (Ranged k) (taken_same k bs v cs w ds t u).0 r)
+fails_broken k bs n (Fork node) f v cs t r = absurd f
+fails_broken k bs n Forks f v cs t r = absurd f
 
 line_append : (s : Slot) (ss : List Slot) (rest : List ℕ) → text_of (s ∷ ss) ++ rest ≡ key_bytes s.key ++ (s.value ++ (10 ∷ (text_of ss ++ rest)))
 line_append s ss rest =
     append_assoc (key_bytes s.key) (s.value ++ (10 ∷ text_of ss)) rest
     ∙ ap (λ xs. key_bytes s.key ++ xs) (append_assoc s.value (10 ∷ text_of ss) rest)
 
-breaks_at : (before : List Slot) (due : Slot) (later : List Slot) (bs rest : List ℕ) → bs ≡ text_of before ++ rest → AllByRecursion InRange before → Broken due.key due.limit rest → Breaks (before ++ due ∷ later) bs
-breaks_at [] due later bs rest e r broken = inl (subst (Broken due.key due.limit) (sym e) broken)
+breaks_at : (before : List Slot) (due : Slot) (later : List Slot) (bs rest : List ℕ) → bs ≡ text_of before ++ rest → AllByRecursion InRange before → Broken due.key rest → Breaks (before ++ due ∷ later) bs
+breaks_at [] due later bs rest e r broken = inl (subst (Broken due.key) (sym e) broken)
 breaks_at (s ∷ before) due later bs rest e r broken =
     inr (text_of before ++ rest, r.0, e ∙ line_append s before rest, breaks_at before due later (text_of before ++ rest) rest refl r.1 broken)
 
@@ -134,20 +134,20 @@ breaks_past (s ∷ ss) bs rest e r more = inr (text_of ss ++ rest, r.0, e ∙ li
 pub breaks_stops : (ss : List Slot) (bs : List ℕ) (n : ℕ) (f : Fault) → Stops ss bs n f → Breaks ss bs
 breaks_stops ss bs n f s =
     subst (λ (l : List Slot). Breaks l bs) (sym s.order)
-    (breaks_at s.before s.due s.later bs s.rest s.took.written s.took.ranged (fails_broken s.due.key s.due.limit s.rest (s.last + 1) f s.fails))
+    (breaks_at s.before s.due s.later bs s.rest s.took.written s.took.ranged (fails_broken s.due.key s.rest (s.last + 1) f s.fails))
 
 pub breaks_overruns : (ss : List Slot) (bs : List ℕ) (n : ℕ) (f : Fault) → Overruns ss bs n f → Breaks ss bs
 breaks_overruns ss bs n f o = breaks_past ss bs o.rest o.took.written o.took.ranged o.more
 
--- two walks along one text, at a line of the same key and limit
-module _ (k : Key) (l : ℕ) (v w : List ℕ) (ss ts : List Slot) where
-  pub clash_step : ((cs : List ℕ) → v ≡ w → Ranged k l v → Ranged k l w → Runs ss cs → Breaks ts cs → ⊥) → (bs : List ℕ) → Runs (slot k l v ∷ ss) bs → Breaks (slot k l w ∷ ts) bs → ⊥
-  clash_step later bs (cs, r, e, run) (inl broken) = broken v cs (record { ended = ranged_lacks k l v r; written = e }) r
+-- two walks along one text, at a line of the same key
+module _ (k : Key) (v w : List ℕ) (ss ts : List Slot) where
+  pub clash_step : ((cs : List ℕ) → v ≡ w → Ranged k v → Ranged k w → Runs ss cs → Breaks ts cs → ⊥) → (bs : List ℕ) → Runs (slot k v ∷ ss) bs → Breaks (slot k w ∷ ts) bs → ⊥
+  clash_step later bs (cs, r, e, run) (inl broken) = broken v cs (record { ended = ranged_lacks k v r; written = e }) r
   clash_step later bs (cs, r, e, run) (inr (ds, q, g, break)) =
-      let (same, rest) = taken_same k bs v cs w ds (record { ended = ranged_lacks k l v r; written = e }) (record { ended = ranged_lacks k l w q; written = g }) in
+      let (same, rest) = taken_same k bs v cs w ds (record { ended = ranged_lacks k v r; written = e }) (record { ended = ranged_lacks k w q; written = g }) in
       later cs same r q run (subst (Breaks ts) (sym rest) break)
 
-  pub match_step : (bs : List ℕ) → Runs (slot k l v ∷ ss) bs → Runs (slot k l w ∷ ts) bs → (cs : List ℕ) × (v ≡ w) × Ranged k l v × Ranged k l w × Runs ss cs × Runs ts cs
+  pub match_step : (bs : List ℕ) → Runs (slot k v ∷ ss) bs → Runs (slot k w ∷ ts) bs → (cs : List ℕ) × (v ≡ w) × Ranged k v × Ranged k w × Runs ss cs × Runs ts cs
   match_step bs (cs, r, e, run) (ds, q, g, other) =
-      let (same, rest) = taken_same k bs v cs w ds (record { ended = ranged_lacks k l v r; written = e }) (record { ended = ranged_lacks k l w q; written = g }) in
+      let (same, rest) = taken_same k bs v cs w ds (record { ended = ranged_lacks k v r; written = e }) (record { ended = ranged_lacks k w q; written = g }) in
       (cs, same, r, q, run, subst (Runs ts) (sym rest) other)

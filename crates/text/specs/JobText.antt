@@ -36,23 +36,23 @@ pub record Written : Type 0 where
 
 abbrev pub header_slots : Header → List Slot
 header_slots h =
-    slot keys.TheVariants.Job 0 (decimal h.number)
-    ∷ slot keys.TheVariants.Period 0 (decimal h.period)
-    ∷ slot keys.TheVariants.Deadline h.period (decimal h.deadline)
-    ∷ slot keys.TheVariants.Nodes 0 (decimal h.count)
+    slot keys.TheVariants.Job (decimal h.number)
+    ∷ slot keys.TheVariants.Period (decimal h.period)
+    ∷ slot (keys.TheVariants.Deadline h.period) (decimal h.deadline)
+    ∷ slot keys.TheVariants.Nodes (decimal h.count)
     ∷ []
 
 abbrev pub node_slots : ℕ → Node → List Slot
 node_slots v (SubTask tag ticks us) =
-    slot keys.TheVariants.Kind 0 (word kinds.TheVariants.SubTask)
-    ∷ slot keys.TheVariants.Tag 0 (decimal tag)
-    ∷ slot keys.TheVariants.Ticks 0 (decimal ticks)
-    ∷ slot keys.TheVariants.After v (listed (places us))
+    slot keys.TheVariants.Kind (word kinds.TheVariants.SubTask)
+    ∷ slot keys.TheVariants.Tag (decimal tag)
+    ∷ slot keys.TheVariants.Ticks (decimal ticks)
+    ∷ slot (keys.TheVariants.After v) (listed (places us))
     ∷ []
 node_slots v (Alternative us) =
-    slot keys.TheVariants.Kind 0 (word kinds.TheVariants.Alternative) ∷ slot keys.TheVariants.After v (listed (places us)) ∷ []
+    slot keys.TheVariants.Kind (word kinds.TheVariants.Alternative) ∷ slot (keys.TheVariants.After v) (listed (places us)) ∷ []
 node_slots v (Conditional us) =
-    slot keys.TheVariants.Kind 0 (word kinds.TheVariants.Conditional) ∷ slot keys.TheVariants.After v (listed (places us)) ∷ []
+    slot keys.TheVariants.Kind (word kinds.TheVariants.Conditional) ∷ slot (keys.TheVariants.After v) (listed (places us)) ∷ []
 
 abbrev pub nodes_slots : ℕ → List Node → List Slot
 nodes_slots v [] = []

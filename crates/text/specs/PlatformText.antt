@@ -4,12 +4,11 @@
 --   engines_slots ss       the lines of engines
 --   slots ss               the lines of a platform text: how many engines there are, and theirs
 --   said e, all_said p     what the engine e and the platform p say
---   blank                  the engine that fills the table after the last one
---   Plain e                e has room for 240 marks, of which those after its own are false
---   Described p            the platform has at most 16 engines, all plain, and blank ones after them
 --   Reads text p           the text is that of the platform p
 --   Refused text f         the text is that of no platform, and f says why
-use Rattle.std.specs.Prelude.{◌≡◌, ℕ, ◌<◌, ◌≤◌, Bool, false, List, [], ◌∷◌, ◌++◌, map, length, take, replicate, decimal, slice_index_or}
+use Rattle.std.specs.Prelude.{ℕ, Bool, List, [], ◌∷◌, ◌++◌, map, length, decimal}
+use Rattle.few.specs.Few.{items}
+use Rattle.engine.specs.Marks.{marked}
 use Rattle.text.specs.declared.fault.Fault.{Fault}
 use Rattle.text.specs.declared.fault.Fault.TheVariants.{Size, Line, Form, Range, Fork, Forks}
 use Rattle.text.specs.declared.key.Key as keys
@@ -23,41 +22,23 @@ pub record Said : Type 0 where
   pub marks : List Bool
 
 abbrev pub engine_slots : Said → List Slot
-engine_slots s = slot keys.TheVariants.Tag 0 (decimal s.tag) ∷ slot keys.TheVariants.Marks 0 (mark_bytes s.marks) ∷ []
+engine_slots s = slot keys.TheVariants.Tag (decimal s.tag) ∷ slot keys.TheVariants.Marks (mark_bytes s.marks) ∷ []
 
 abbrev pub engines_slots : List Said → List Slot
 engines_slots [] = []
 engines_slots (s ∷ ss) = engine_slots s ++ engines_slots ss
 
 abbrev pub slots : List Said → List Slot
-slots ss = slot keys.TheVariants.Engines 0 (decimal (length ss)) ∷ engines_slots ss
+slots ss = slot keys.TheVariants.Engines (decimal (length ss)) ∷ engines_slots ss
 
 abbrev pub said : Engine → Said
-said e = record { tag = e.tag; marks = take e.length e.marks }
+said e = record { tag = e.tag; marks = marked e.marks }
 
 abbrev pub all_said : Platform → List Said
-all_said p = map said (take p.count p.engines)
-
-abbrev pub blank : Engine
-blank = record { tag = 0; length = 0; marks = replicate 240 false }
-
-pub record Plain (e : Engine) : Type 0 where
-  pub size : length e.marks ≡ 240
-  pub short : e.length ≤ 240
-  pub rest : (i : ℕ) → e.length ≤ i → slice_index_or e.marks i false ≡ false
-
-abbrev pub at : List Engine → ℕ → Engine
-at es i = slice_index_or es i blank
-
-pub record Described (p : Platform) : Type 0 where
-  pub size : length p.engines ≡ 16
-  pub few : p.count ≤ 16
-  pub plain : (i : ℕ) → i < p.count → Plain (at p.engines i)
-  pub rest : (i : ℕ) → p.count ≤ i → at p.engines i ≡ blank
+all_said p = map said (items p.engines)
 
 pub record Reads (text : List ℕ) (p : Platform) : Type 0 where
   pub sized : Sized text
-  pub described : Described p
   pub whole : Whole (slots (all_said p)) text
 
 pub record WrongLine (text : List ℕ) (f : Fault) : Type 0 where

@@ -1,13 +1,12 @@
 -- Lines that are due, one after the other.
---   Slot                     a due line: its key, what its range depends on (a deadline's period, the number of the node
---                            that a list belongs to, else 0), and the value that is written
+--   Slot                     a due line: its key and the value that is written
 --   text_of ss               the written lines, each its key, its value and byte 10
---   number_fits k l n        n lies in the range of the key k with the limit l
+--   number_fits k n          n lies in the range of the key k
 --   MarksFit ms              at most 240 marks, a divisor of 14,400, with a one
---   Ranged k l bs            the value bs is well formed and in range
+--   Ranged k bs              the value bs is well formed and in range
 --   Taken k bs value more    bs begins with a line of the key k with this value; more stands after it
 --   Took ss bs n cs m        bs begins with the lines ss, all in range; cs stands after them; line n was the last before, m is the last of them
---   Fails k l bs n f         bs does not begin with a line of the key k that is in range, and f says why, at line n
+--   Fails k bs n f           bs does not begin with a line of the key k that is in range, and f says why, at line n
 --   Stops ss bs n f          bs begins with some of the lines ss, and the next fails by f; line n was the last before
 --   Overruns ss bs n f       bs begins with all the lines ss, and more stands after them: f says so, at the line after the last
 --   Halts ss bs f            the text bs is not just the lines ss, and f says why
@@ -23,51 +22,50 @@ use Rattle.text.specs.declared.key.Key.{Key}
 use Rattle.text.specs.declared.key.Key.TheVariants.{Job, Period, Deadline, Nodes, Kind, Tag, Ticks, After, Engines, Marks}
 use Rattle.text.specs.declared.key.Sort as sorts
 use Rattle.text.specs.declared.key.Sort.{Sort}
-use Rattle.text.specs.Key.{key_bytes, sort_of}
+use Rattle.text.specs.Key.{key_bytes, node_of, sort_of}
 use Rattle.text.specs.Split.{Lacks}
 use Rattle.text.specs.Value.{Numeral, Listed, Marked}
 use Rattle.text.specs.Value as values
 
 pub record Slot : Type 0 where
   pub key : Key
-  pub limit : ℕ
   pub value : List ℕ
 
-abbrev pub slot : Key → ℕ → List ℕ → Slot
-slot k l bs = record { key = k; limit = l; value = bs }
+abbrev pub slot : Key → List ℕ → Slot
+slot k bs = record { key = k; value = bs }
 
 abbrev pub text_of : List Slot → List ℕ
 text_of [] = []
 text_of (s ∷ ss) = key_bytes s.key ++ (s.value ++ (10 ∷ text_of ss))
 
-abbrev pub number_fits : Key → ℕ → ℕ → Bool
-number_fits Job l n = fits (field.TheVariants.Number n)
-number_fits Period l n = fits (field.TheVariants.Period n)
-number_fits Deadline l n = fits (field.TheVariants.Deadline l n)
-number_fits Nodes l n = fits (field.TheVariants.Count n)
-number_fits Kind l n = false
-number_fits Tag l n = fits (field.TheVariants.Tag n)
-number_fits Ticks l n = fits (field.TheVariants.Work n)
-number_fits After l n = false
-number_fits Engines l n = nat_le 1 n && nat_le n 16
-number_fits Marks l n = false
+abbrev pub number_fits : Key → ℕ → Bool
+number_fits Job n = fits (field.TheVariants.Number n)
+number_fits Period n = fits (field.TheVariants.Period n)
+number_fits (Deadline p) n = fits (field.TheVariants.Deadline p n)
+number_fits Nodes n = fits (field.TheVariants.Count n)
+number_fits Kind n = false
+number_fits Tag n = fits (field.TheVariants.Tag n)
+number_fits Ticks n = fits (field.TheVariants.Work n)
+number_fits (After v) n = false
+number_fits Engines n = nat_le 1 n && nat_le n 16
+number_fits Marks n = false
 
 pub record MarksFit (ms : List Bool) : Type 0 where
   pub short : length ms ≤ 240
   pub divides : 14400 % length ms ≡ 0
   pub serves : (i : ℕ) × (slice_index_or ms i false ≡ true)
 
-abbrev pub RangedAs : Sort → Key → ℕ → List ℕ → Type 0
-RangedAs sorts.TheVariants.Number k l bs = (n : ℕ) × Numeral n bs × (number_fits k l n ≡ true)
-RangedAs sorts.TheVariants.Kind k l bs = values.Form sorts.TheVariants.Kind bs
-RangedAs sorts.TheVariants.List k l bs = Listed (λ n. n < l) bs
-RangedAs sorts.TheVariants.Marks k l bs = Marked MarksFit bs
+abbrev pub RangedAs : Sort → Key → List ℕ → Type 0
+RangedAs sorts.TheVariants.Number k bs = (n : ℕ) × Numeral n bs × (number_fits k n ≡ true)
+RangedAs sorts.TheVariants.Kind k bs = values.Form sorts.TheVariants.Kind bs
+RangedAs sorts.TheVariants.List k bs = Listed (λ n. n < node_of k) bs
+RangedAs sorts.TheVariants.Marks k bs = Marked MarksFit bs
 
-abbrev pub Ranged : Key → ℕ → List ℕ → Type 0
-Ranged k l bs = RangedAs (sort_of k) k l bs
+abbrev pub Ranged : Key → List ℕ → Type 0
+Ranged k bs = RangedAs (sort_of k) k bs
 
 abbrev pub InRange : Slot → Type 0
-InRange s = Ranged s.key s.limit s.value
+InRange s = Ranged s.key s.value
 
 pub record Taken (k : Key) (bs value more : List ℕ) : Type 0 where
   pub ended : Lacks 10 value
@@ -78,13 +76,13 @@ pub record Took (ss : List Slot) (bs : List ℕ) (n : ℕ) (cs : List ℕ) (m : 
   pub ranged : AllByRecursion InRange ss
   pub counted : m ≡ n + length ss
 
-abbrev pub Fails : Key → ℕ → List ℕ → ℕ → Fault → Type 0
-Fails k l bs n Size = ⊥
-Fails k l bs n (Line at) = (at ≡ n) × ((value more : List ℕ) → Taken k bs value more → ⊥)
-Fails k l bs n (Form at) = (at ≡ n) × ((value : List ℕ) × (more : List ℕ) × Taken k bs value more × (values.Form (sort_of k) value → ⊥))
-Fails k l bs n (Range at) = (at ≡ n) × ((value : List ℕ) × (more : List ℕ) × Taken k bs value more × values.Form (sort_of k) value × (Ranged k l value → ⊥))
-Fails k l bs n (Fork node) = ⊥
-Fails k l bs n Forks = ⊥
+abbrev pub Fails : Key → List ℕ → ℕ → Fault → Type 0
+Fails k bs n Size = ⊥
+Fails k bs n (Line at) = (at ≡ n) × ((value more : List ℕ) → Taken k bs value more → ⊥)
+Fails k bs n (Form at) = (at ≡ n) × ((value : List ℕ) × (more : List ℕ) × Taken k bs value more × (values.Form (sort_of k) value → ⊥))
+Fails k bs n (Range at) = (at ≡ n) × ((value : List ℕ) × (more : List ℕ) × Taken k bs value more × values.Form (sort_of k) value × (Ranged k value → ⊥))
+Fails k bs n (Fork node) = ⊥
+Fails k bs n Forks = ⊥
 
 pub record Stops (ss : List Slot) (bs : List ℕ) (n : ℕ) (f : Fault) : Type 0 where
   pub before : List Slot
@@ -94,7 +92,7 @@ pub record Stops (ss : List Slot) (bs : List ℕ) (n : ℕ) (f : Fault) : Type 0
   pub rest : List ℕ
   pub last : ℕ
   pub took : Took before bs n rest last
-  pub fails : Fails due.key due.limit rest (last + 1) f
+  pub fails : Fails due.key rest (last + 1) f
 
 pub record Overruns (ss : List Slot) (bs : List ℕ) (n : ℕ) (f : Fault) : Type 0 where
   pub rest : List ℕ

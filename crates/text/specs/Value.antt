@@ -4,22 +4,23 @@
 --   commas ns           the numbers in decimal, with commas between
 --   listed ns           the same, and a dash for no number
 --   Rising k ns         the numbers rise, from k on
---   Rises P k bs        bs is such a list with one number or more, all of which P holds
---   Listed P bs         the same from 0 on, or a dash
---   Begins n more bs    bs is the number n alone, or n, a comma and more
+--   Listed P bs         bs is rising numbers, all of which P holds, with commas between, or a dash for none
+--   end_of ns           one more than the last of ns, 0 for none
 --   places us           the places of us that are true, rising
+--   Gathers l bs        bs lists rising numbers: l has the places of those below 24, and the end of all
 --   word k              the name of the kind k
 --   mark_bytes ms       a one for each place of ms that is true, a zero for each other
 --   Marked P bs         bs is such a string, of one mark or more of which P holds
 --   Form s bs           bs is well formed as a value of the sort s
 --   Means s bs v        and v is that value
 --   Lower v us          us has 24 places, of which those that are true lie below v
-use Rattle.std.specs.Prelude.{◌≡◌, ℕ, suc, ◌<◌, ◌≤◌, Bool, true, false, cond, List, [], ◌∷◌, ◌++◌, map, length, Some, None, codes, decimal, Option, slice_index_or}
+use Rattle.std.specs.Prelude.{◌≡◌, ℕ, suc, ◌<◌, ◌≤◌, Bool, true, false, cond, List, [], ◌∷◌, ◌++◌, map, length, filter, codes, decimal, nat_lt, slice_index_or}
 use Rattle.std.specs.List.{AllByRecursion}
 use Rattle.text.specs.declared.key.Sort as sorts
 use Rattle.text.specs.declared.key.Sort.{Sort}
 use Rattle.text.specs.declared.value.Kind.{Kind}
 use Rattle.text.specs.declared.value.Kind.TheVariants.{SubTask, Alternative, Conditional}
+use Rattle.text.specs.declared.value.Numbers.{Numbers}
 use Rattle.text.specs.declared.value.Value as values
 use Rattle.text.specs.declared.value.Value.{Value}
 
@@ -43,24 +44,12 @@ abbrev pub Rising : ℕ → List ℕ → Type 0
 Rising k [] = Unit {0}
 Rising k (n ∷ ns) = (k ≤ n) × Rising (suc n) ns
 
-pub record Rises (P : ℕ → Type 0) (k : ℕ) (bs : List ℕ) : Type 0 where
-  pub first : ℕ
-  pub more : List ℕ
-  pub rising : Rising k (first ∷ more)
-  pub small : AllByRecursion Small (first ∷ more)
-  pub all : AllByRecursion P (first ∷ more)
-  pub written : bs ≡ commas (first ∷ more)
-
 pub record Listed (P : ℕ → Type 0) (bs : List ℕ) : Type 0 where
   pub numbers : List ℕ
   pub rising : Rising 0 numbers
   pub small : AllByRecursion Small numbers
   pub all : AllByRecursion P numbers
   pub written : bs ≡ listed numbers
-
-abbrev pub Begins : ℕ → Option (List ℕ) → List ℕ → Type 0
-Begins n None bs = Small n × (bs ≡ decimal n)
-Begins n (Some more) bs = Small n × (bs ≡ decimal n ++ 44 ∷ more)
 
 abbrev pub places_from : ℕ → List Bool → List ℕ
 places_from k [] = []
@@ -69,6 +58,17 @@ places_from k (false ∷ us) = places_from (suc k) us
 
 abbrev pub places : List Bool → List ℕ
 places us = places_from 0 us
+
+abbrev pub end_of : List ℕ → ℕ
+end_of [] = 0
+end_of (n ∷ []) = suc n
+end_of (n ∷ m ∷ ns) = end_of (m ∷ ns)
+
+pub record Gathers (l : Numbers) (bs : List ℕ) : Type 0 where
+  pub form : Listed (λ _. Unit {0}) bs
+  pub size : length l.places ≡ 24
+  pub below : places l.places ≡ filter (λ n. nat_lt n 24) form.numbers
+  pub end : l.end ≡ end_of form.numbers
 
 pub record Lower (v : ℕ) (us : List Bool) : Type 0 where
   pub size : length us ≡ 24
@@ -94,15 +94,8 @@ Form sorts.TheVariants.Kind bs = (k : Kind) × (bs ≡ word k)
 Form sorts.TheVariants.List bs = Listed (λ _. Unit {0}) bs
 Form sorts.TheVariants.Marks bs = Marked (λ _. Unit {0}) bs
 
--- a word is the name of a kind, or marks
-abbrev pub WordForm : Sort → List ℕ → Type 0
-WordForm sorts.TheVariants.Number bs = ⊥
-WordForm sorts.TheVariants.Kind bs = (k : Kind) × (bs ≡ word k)
-WordForm sorts.TheVariants.List bs = ⊥
-WordForm sorts.TheVariants.Marks bs = Marked (λ _. Unit {0}) bs
-
 abbrev pub Means : Sort → List ℕ → Value → Type 0
 Means s bs (values.TheVariants.Number n) = (s ≡ sorts.TheVariants.Number) × Numeral n bs
-Means s bs (values.TheVariants.Word piece) = (piece.now ≡ bs) × WordForm s bs
-Means s bs (values.TheVariants.List piece) = (piece.now ≡ bs) × (s ≡ sorts.TheVariants.List) × Rises (λ _. Unit {0}) 0 bs
-Means s bs values.TheVariants.Dash = (s ≡ sorts.TheVariants.List) × (bs ≡ 45 ∷ [])
+Means s bs (values.TheVariants.Kind k) = (s ≡ sorts.TheVariants.Kind) × (bs ≡ word k)
+Means s bs (values.TheVariants.List l) = (s ≡ sorts.TheVariants.List) × Gathers l bs
+Means s bs (values.TheVariants.Marks piece) = (s ≡ sorts.TheVariants.Marks) × (piece.now ≡ bs) × Marked (λ _. Unit {0}) bs

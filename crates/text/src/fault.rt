@@ -1,9 +1,12 @@
 //! What a reader finds wrong with a text.
-ghost use Rattle.std.specs.Prelude.{◌≡◌};
+ghost use Rattle.std.specs.Prelude.{◌≡◌, ◌∷◌, ◌++◌, Some, decimal};
 ghost use Rattle.text.specs.Fault.{number_of, place_of};
 
+use std::error::Error;
+use std::fmt;
+
 /// The first question that a text fails, with its place.
-#[derive(Clone, Copy)]
+#[derive(Debug, Clone, Copy, PartialEq, Eq)]
 pub enum Fault {
     /// The text is empty, or longer than 4096 bytes.
     Size,
@@ -45,3 +48,15 @@ impl Fault {
         }
     }
 }
+
+/// The number of the question, a comma, and the place.
+impl fmt::Display for Fault {
+    ghost output = { λ f. Some (decimal (number_of f) ++ 44 ∷ decimal (place_of f)) };
+
+    fn fmt<W: fmt::Write>(&self, f: &mut fmt::Formatter<W>) -> fmt::Result {
+        let (number, place) = (self.number(), self.place());
+        write!(f, "{number},{place}")
+    }
+}
+
+impl Error for Fault {}

@@ -1,5 +1,6 @@
 //! Reading a job from its text.
 ghost use Rattle.std.specs.Prelude.{◌≡◌, ◌<◌, ◌≤◌, List, length, take, MatchResult};
+ghost use Rattle.few.specs.Few.{items};
 ghost use Rattle.task.specs.declared.node.Node.{Node};
 ghost use Rattle.task.specs.Flaws.{HeaderFits, InRange, MadeOf};
 ghost use Rattle.text.specs.JobText.{Forked, NodeFits, NodesFit, Reads, Refused, header_slots, node_slots, nodes_slots};
@@ -10,6 +11,7 @@ use crate::fault::Fault;
 use crate::key::Key;
 use crate::lines::Lines;
 use crate::value::Kind;
+use few::few::Few;
 use task::job::Job;
 use task::node::{BLANK, NODES, Node};
 use task::sound::Flaw;
@@ -28,10 +30,10 @@ impl Lines<'_> {
     fn header(&mut self) -> Result<Header, Fault>
         ensures { MatchResult result (λ h. Takes (header_slots h) self.old self.new × HeaderFits h.number h.period h.deadline h.count) (λ f. (h : Header) × Refuses (header_slots h) self.old f) }
     {
-        let number = self.number(Key::Job, 0)?;
-        let period = self.number(Key::Period, 0)?;
-        let deadline = self.number(Key::Deadline, period)?;
-        let count = self.number(Key::Nodes, 0)?;
+        let number = self.number(Key::Job)?;
+        let period = self.number(Key::Period)?;
+        let deadline = self.number(Key::Deadline { period })?;
+        let count = self.number(Key::Nodes)?;
         Ok(Header {
             number,
             period,
@@ -47,8 +49,8 @@ impl Lines<'_> {
     {
         match self.kind()? {
             Kind::SubTask => {
-                let tag = self.number(Key::Tag, 0)?;
-                let ticks = self.number(Key::Ticks, 0)?;
+                let tag = self.number(Key::Tag)?;
+                let ticks = self.number(Key::Ticks)?;
                 let after = self.after(v)?;
                 Ok(Node::SubTask { tag, ticks, after })
             }
@@ -64,15 +66,16 @@ impl Lines<'_> {
     }
 
     /// Takes the lines of so many nodes.
-    fn nodes(&mut self, count: usize) -> Result<[Node; NODES], Fault>
+    fn nodes(&mut self, count: usize) -> Result<Few<Node, NODES>, Fault>
         requires { count ≤ 24 }
-        ensures { MatchResult result (λ table. (length (take count table) ≡ count) × Takes (nodes_slots 0 (take count table)) self.old self.new × NodesFit (take count table)) (λ f. (ns : List Node) × (length ns ≡ count) × Refuses (nodes_slots 0 ns) self.old f) }
+        ensures { MatchResult result (λ ns. (length (items ns) ≡ count) × Takes (nodes_slots 0 (items ns)) self.old self.new × NodesFit (items ns)) (λ f. (ns : List Node) × (length ns ≡ count) × Refuses (nodes_slots 0 ns) self.old f) }
     {
-        let mut table = [BLANK; NODES];
+        let mut nodes = Few::new(BLANK);
         for v in 0..count {
-            table[v] = self.node(v)?;
+            let node = self.node(v)?;
+            nodes.push(node).unwrap();
         }
-        Ok(table)
+        Ok(nodes)
     }
 }
 
@@ -81,30 +84,19 @@ fn make_job(header: Header, nodes: &[Node]) -> Result<Job, Fault>
     requires { InRange header.number header.period header.deadline nodes.now }
     ensures { MatchResult result (MadeOf header.number header.period header.deadline nodes.now) (Forked nodes.now) }
 {
-    let flaw = match Job::new(header.number, header.period, header.deadline, nodes) {
-        Ok(job) => return Ok(job),
-        Err(flaw) => flaw,
-    };
-    match flaw {
-        Flaw::Fork(v) => Err(Fault::Fork { node: v as u32 }),
-        _ => Err(Fault::Forks),
-    }
+    Job::new(header.number, header.period, header.deadline, nodes).map_err(|flaw| match flaw {
+        Flaw::Fork(v) => Fault::Fork { node: v as u32 },
+        _ => Fault::Forks,
+    })
 }
 
 /// The job that the text writes.
 pub fn read_job(text: &[u8]) -> Result<Job, Fault>
     ensures { MatchResult result (Reads text.now) (Refused text.now) }
 {
-    if text.len() == 0 || text.len() > 4096 {
-        return Err(Fault::Size);
-    }
-    let mut lines = Lines {
-        rest: text,
-        number: 0,
-    };
+    let mut lines = Lines::of(text)?;
     let header = lines.header()?;
-    let count = header.count as usize;
-    let table = lines.nodes(count)?;
+    let nodes = lines.nodes(header.count as usize)?;
     lines.end()?;
-    make_job(header, &table[0..count])
+    make_job(header, &nodes)
 }

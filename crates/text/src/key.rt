@@ -7,12 +7,14 @@ ghost use Rattle.text.specs.Key.{key_bytes, sort_of};
 pub enum Key {
     Job,
     Period,
-    Deadline,
+    /// Of a job with this period.
+    Deadline { period: u32 },
     Nodes,
     Kind,
     Tag,
     Ticks,
-    After,
+    /// Of this node.
+    After { node: usize },
     Engines,
     Marks,
 }
@@ -37,9 +39,27 @@ impl Key {
     {
         match self {
             Key::Kind => Sort::Kind,
-            Key::After => Sort::List,
+            Key::After { .. } => Sort::List,
             Key::Marks => Sort::Marks,
             _ => Sort::Number,
+        }
+    }
+
+    /// The key with the equals sign after it.
+    fn bytes(self) -> &'static [u8]
+        ensures { result.now ≡ key_bytes self }
+    {
+        match self {
+            Key::Job => b"job=",
+            Key::Period => b"period=",
+            Key::Deadline { .. } => b"deadline=",
+            Key::Nodes => b"nodes=",
+            Key::Kind => b"kind=",
+            Key::Tag => b"tag=",
+            Key::Ticks => b"ticks=",
+            Key::After { .. } => b"after=",
+            Key::Engines => b"engines=",
+            Key::Marks => b"marks=",
         }
     }
 
@@ -47,34 +67,6 @@ impl Key {
     pub fn value_of(self, line: &[u8]) -> Option<&[u8]>
         ensures { MatchOption result ((value : List ℕ) → line.now ≢ key_bytes self ++ value) (λ value. line.now ≡ key_bytes self ++ value.now) }
     {
-        match (self, line) {
-            (Key::Job, [b'j', b'o', b'b', b'=', value @ ..]) => Some(value),
-            (Key::Period, [b'p', b'e', b'r', b'i', b'o', b'd', b'=', value @ ..]) => Some(value),
-            (
-                Key::Deadline,
-                [
-                    b'd',
-                    b'e',
-                    b'a',
-                    b'd',
-                    b'l',
-                    b'i',
-                    b'n',
-                    b'e',
-                    b'=',
-                    value @ ..,
-                ],
-            ) => Some(value),
-            (Key::Nodes, [b'n', b'o', b'd', b'e', b's', b'=', value @ ..]) => Some(value),
-            (Key::Kind, [b'k', b'i', b'n', b'd', b'=', value @ ..]) => Some(value),
-            (Key::Tag, [b't', b'a', b'g', b'=', value @ ..]) => Some(value),
-            (Key::Ticks, [b't', b'i', b'c', b'k', b's', b'=', value @ ..]) => Some(value),
-            (Key::After, [b'a', b'f', b't', b'e', b'r', b'=', value @ ..]) => Some(value),
-            (Key::Engines, [b'e', b'n', b'g', b'i', b'n', b'e', b's', b'=', value @ ..]) => Some(
-                value,
-            ),
-            (Key::Marks, [b'm', b'a', b'r', b'k', b's', b'=', value @ ..]) => Some(value),
-            _ => None,
-        }
+        line.strip_prefix(self.bytes())
     }
 }

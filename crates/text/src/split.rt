@@ -6,10 +6,6 @@ ghost use Rattle.text.specs.Split.{Cut, Lacks};
 pub(crate) fn cut(bytes: &[u8], stop: u8) -> Option<(&[u8], &[u8])>
     ensures { MatchOption result (Lacks stop bytes.now) (λ p. Cut stop bytes.now p.0.now p.1.now) }
 {
-    for (i, byte) in bytes.iter().enumerate() {
-        if *byte == stop {
-            return Some((&bytes[0..i], &bytes[i + 1..]));
-        }
-    }
-    None
+    let at = bytes.iter().position(|byte| *byte == stop)?;
+    Some((&bytes[..at], &bytes[at + 1..]))
 }

@@ -1,21 +1,20 @@
 //! The values of lines.
-ghost use Rattle.std.specs.Prelude.{◌≡◌, ℕ, ◌<◌, ◌≤◌, List, length, Decides, Option, MatchOption, ◌≢◌, slice_index};
-ghost use Rattle.std.specs.Option.{option_map};
-ghost use Rattle.std.specs.Char.{digit_value};
+ghost use Rattle.std.specs.Prelude.{◌≡◌, ℕ, ◌+◌, ◌<◌, ◌≤◌, true, ◌||◌, length, Decides, MatchOption, ◌≢◌, ◌==◌, slice_index, slice_set};
+ghost use Rattle.std.specs.List.{list_all};
 ghost use Rattle.text.specs.declared.value.Kind.{Kind};
-ghost use Rattle.text.specs.Value.{Begins, Form, Lower, Marked, Means, Numeral, Rises, listed, places, word};
+ghost use Rattle.text.specs.Value.{Form, Gathers, Listed, Marked, Means, Numeral, word};
 
 use crate::key::Sort;
-use crate::split::cut;
 use task::node::{After, NODES};
 
-/// The value of a line: a number, or a piece of the text that it was read from.
+/// The value of a line.
 #[derive(Clone, Copy)]
 pub enum Value<'a> {
     Number(u32),
-    Word(&'a [u8]),
-    List(&'a [u8]),
-    Dash,
+    Kind(Kind),
+    List(Numbers),
+    /// Zeros and ones of the text that it was read from.
+    Marks(&'a [u8]),
 }
 
 /// The value of a line, with the line's number from 1.
@@ -33,6 +32,26 @@ pub enum Kind {
     Conditional,
 }
 
+/// Rising numbers, or none: place u is true where u is one of them, and `end` is one more than the last.
+#[derive(Clone, Copy)]
+pub struct Numbers {
+    pub places: After,
+    pub end: u32,
+}
+
+impl Numbers {
+    /// Puts a number behind the others.
+    fn push(&mut self, number: u32)
+        requires { number < 1000000000 }
+        ensures { self.new ≡ record { places = slice_set self.old.places number true; end = number + 1 } }
+    {
+        if number < NODES as u32 {
+            self.places[number as usize] = true;
+        }
+        self.end = number + 1;
+    }
+}
+
 /// Whether there are one to nine bytes, the first of several not a zero.
 fn is_short(bytes: &[u8]) -> bool
     ensures { Decides result ((0 < length bytes.now) × (length bytes.now ≤ 9) × (slice_index bytes.now 0 ≡ 48 → length bytes.now ≡ 1)) }
@@ -43,18 +62,8 @@ fn is_short(bytes: &[u8]) -> bool
     }
 }
 
-/// The digit that the byte writes.
-fn digit(byte: u8) -> Option<u32>
-    ensures { MatchOption result (digit_value byte < 10 → ⊥) (λ d. (d ≡ digit_value byte) × (d < 10)) }
-{
-    match byte {
-        b'0'..=b'9' => Some((byte - b'0') as u32),
-        _ => None,
-    }
-}
-
 /// The number that the bytes write: one to nine digits, with no zero in front but in 0 itself.
-pub(crate) fn number(bytes: &[u8]) -> Option<u32>
+fn number(bytes: &[u8]) -> Option<u32>
     ensures { MatchOption result ((n : ℕ) → Numeral n bytes.now → ⊥) (λ n. Numeral n bytes.now) }
 {
     if !is_short(bytes) {
@@ -62,89 +71,57 @@ pub(crate) fn number(bytes: &[u8]) -> Option<u32>
     }
     let mut number = 0;
     for byte in bytes {
-        let digit = digit(*byte)?;
+        let digit = char::from(*byte).to_digit(10)?;
         number = number * 10 + digit;
     }
     Some(number)
 }
 
-/// The first number of a list, and what stands after the comma behind it.
-fn first_number(list: &[u8]) -> Option<(u32, Option<&[u8]>)>
-    ensures { MatchOption result ((n : ℕ) (more : Option (List ℕ)) → Begins n more list.now → ⊥) (λ p. Begins p.0 (option_map (λ x. x.now) p.1) list.now) }
+/// The numbers of a list: rising, with commas between, or a dash for none.
+fn list(bytes: &[u8]) -> Option<Numbers>
+    ensures { MatchOption result (Listed (λ _. Unit {0}) bytes.now → ⊥) (λ numbers. Gathers numbers bytes.now) }
 {
-    match cut(list, b',') {
-        Some((front, rest)) => Some((number(front)?, Some(rest))),
-        None => Some((number(list)?, None)),
+    let mut numbers = Numbers {
+        places: [false; NODES],
+        end: 0,
+    };
+    if bytes == b"-".as_slice() {
+        return Some(numbers);
     }
-}
-
-/// Whether the bytes are rising numbers with commas between.
-fn is_rising(list: &[u8]) -> bool
-    ensures { Decides result (Rises (λ _. Unit {0}) 0 list.now) }
-{
-    let mut rest = list;
-    let mut least = 0;
-    loop {
-        let Some((number, more)) = first_number(rest) else {
-            return false;
-        };
-        if number < least {
-            return false;
-        }
-        let Some(later) = more else {
-            return true;
-        };
-        rest = later;
-        least = number + 1;
-    }
-}
-
-/// The numbers of a rising list as a set, unless one is `node` or more.
-pub(crate) fn lower(list: &[u8], node: usize) -> Option<After>
-    requires { (Rises (λ _. Unit {0}) 0 list.now) × (node < 24) }
-    ensures { MatchOption result (Rises (λ n. n < node) 0 list.now → ⊥) (λ us. (list.now ≡ listed (places us)) × Lower node us) }
-{
-    let mut after = [false; NODES];
-    let mut rest = list;
-    loop {
-        let (number, more) = first_number(rest)?;
-        let place = number as usize;
-        if place >= node {
+    for part in bytes.split(|byte| *byte == b',') {
+        let number = number(part)?;
+        if number < numbers.end {
             return None;
         }
-        after[place] = true;
-        let Some(later) = more else {
-            return Some(after);
-        };
-        rest = later;
+        numbers.push(number);
     }
+    Some(numbers)
 }
 
 /// The kind that the word names.
-pub(crate) fn kind_of(bytes: &[u8]) -> Option<Kind>
+fn kind_of(bytes: &[u8]) -> Option<Kind>
     ensures { MatchOption result ((k : Kind) → bytes.now ≢ word k) (λ k. bytes.now ≡ word k) }
 {
-    if bytes == b"subtask".as_slice() {
-        Some(Kind::SubTask)
-    } else if bytes == b"alternative".as_slice() {
-        Some(Kind::Alternative)
-    } else if bytes == b"conditional".as_slice() {
-        Some(Kind::Conditional)
-    } else {
-        None
+    match bytes {
+        b"subtask" => Some(Kind::SubTask),
+        b"alternative" => Some(Kind::Alternative),
+        b"conditional" => Some(Kind::Conditional),
+        _ => None,
     }
+}
+
+/// Whether the bytes are zeros and ones.
+fn are_bits(bytes: &[u8]) -> bool
+    ensures { result ≡ list_all (λ b. b == 48 || b == 49) bytes.now }
+{
+    bytes.iter().all(|byte| *byte == b'0' || *byte == b'1')
 }
 
 /// Whether the bytes are zeros and ones, one or more.
 fn are_marks(bytes: &[u8]) -> bool
     ensures { Decides result (Marked (λ _. Unit {0}) bytes.now) }
 {
-    for byte in bytes {
-        if *byte != b'0' && *byte != b'1' {
-            return false;
-        }
-    }
-    bytes.len() > 0
+    !bytes.is_empty() && are_bits(bytes)
 }
 
 impl Sort {
@@ -154,17 +131,9 @@ impl Sort {
     {
         match self {
             Sort::Number => Some(Value::Number(number(bytes)?)),
-            Sort::Kind => match kind_of(bytes) {
-                Some(_) => Some(Value::Word(bytes)),
-                None => None,
-            },
-            Sort::List => match bytes {
-                b"-" => Some(Value::Dash),
-                _ if is_rising(bytes) => Some(Value::List(bytes)),
-                _ => None,
-            },
-            Sort::Marks if are_marks(bytes) => Some(Value::Word(bytes)),
-            Sort::Marks => None,
+            Sort::Kind => Some(Value::Kind(kind_of(bytes)?)),
+            Sort::List => Some(Value::List(list(bytes)?)),
+            Sort::Marks => are_marks(bytes).then_some(Value::Marks(bytes)),
         }
     }
 }

@@ -1,12 +1,11 @@
-use Rattle.std.proofs.Common.{refl}
-use native.Mathlib.Nat.{sub-zero}
+use Rattle.std.proofs.Common.{[], ◌∷◌, None}
+use Rattle.std.proofs.lemmas.Bool.Decides.{Decides-eqb}
 use Rattle.std.proofs.lemmas.List.{take_rest}
-use Rattle.text.proofs.Parting.{parted, unparted}
+use Rattle.std.proofs.lemmas.Slice.Eq.{strip_prefix_is}
+use Rattle.text.proofs.Parting.{parted_at_gap}
 use Rattle.text.proofs.texts.first_text.Goals as goal
 
-pub returns-then-ended : goal.returns-then-ended
-returns-then-ended c =
-    rw (sub-zero, take_rest) (parted c.args.input.now c.loop-i.i c.loop-i-test.true c.if-ended.true (c.loop-i.invariant.0.0 c.if-fresh.true) c.loop-i.invariant.1)
-
-pub returns : goal.returns
-returns c = (refl, unparted c.args.input.now c.loop-i.i c.loop-i-test.false c.loop-i.invariant.1)
+pub returns-in-Some-gap : goal.returns-in-Some-gap
+returns-in-Some-gap c =
+    let bs = c.args.input.now in
+    rw take_rest (parted_at_gap bs c.in-Some-gap.at (strip_prefix_is Decides-eqb bs (10 ∷ []) None c.in_default.ensures.cases) c.in-Some-gap.ensures.0 c.in-Some-gap.ensures.1)

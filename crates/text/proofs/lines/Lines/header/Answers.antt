@@ -1,7 +1,7 @@
 use Rattle.std.proofs.Common.{ℕ}
-use Rattle.std.proofs.lemmas.Result.{err_from_is_err_and}
 use Rattle.text.specs.declared.job_text.Header.{Header}
-use Rattle.text.proofs.Following.{took_next, stops_here, stops_next}
+use Rattle.text.proofs.Passing.{passed_on}
+use Rattle.text.proofs.Following.{stops_here, stops_next}
 use Rattle.text.proofs.lines.Lines.header.Goals as goal
 
 -- what is not read yet is 1
@@ -10,26 +10,16 @@ draft number period deadline = record { number = number; period = period; deadli
 
 pub returns-in_err-number : goal.returns-in_err-number
 returns-in_err-number c =
-    let p = err_from_is_err_and c.from_residual.result c.from_residual.ensures.1 in
-    rw (p.1, p.2) ((draft 1 1 1, stops_here c.in_err-number.ensures))
+    passed_on _ _ _ _ c.from_residual.ensures.1 ((draft 1 1 1, stops_here c.in_err-number.ensures))
 
 pub returns-in_err-period : goal.returns-in_err-period
 returns-in_err-period c =
-    let p = err_from_is_err_and c.from_residual-in_err-period.result c.from_residual-in_err-period.ensures.1 in
-    rw (p.1, p.2) ((draft c.in_ok-number.number 1 1, stops_next c.in_ok-number.ensures.0 (stops_here c.in_err-period.ensures)))
+    passed_on _ _ _ _ c.from_residual-in_err-period.ensures.1 ((draft c.in_ok-number.number 1 1, stops_next c.in_ok-number.ensures.0 (stops_here c.in_err-period.ensures)))
 
 pub returns-in_err-deadline : goal.returns-in_err-deadline
 returns-in_err-deadline c =
-    let p = err_from_is_err_and c.from_residual-in_err-deadline.result c.from_residual-in_err-deadline.ensures.1 in
-    rw (p.1, p.2) ((draft c.in_ok-number.number c.in_ok-period.period 1, stops_next c.in_ok-number.ensures.0 (stops_next c.in_ok-period.ensures.0 (stops_here c.in_err-deadline.ensures))))
+    passed_on _ _ _ _ c.from_residual-in_err-deadline.ensures.1 ((draft c.in_ok-number.number c.in_ok-period.period 1, stops_next c.in_ok-number.ensures.0 (stops_next c.in_ok-period.ensures.0 (stops_here c.in_err-deadline.ensures))))
 
 pub returns-in_err-count : goal.returns-in_err-count
 returns-in_err-count c =
-    let p = err_from_is_err_and c.from_residual-in_err-count.result c.from_residual-in_err-count.ensures.1 in
-    rw (p.1, p.2) ((draft c.in_ok-number.number c.in_ok-period.period c.in_ok-deadline.deadline, stops_next c.in_ok-number.ensures.0 (stops_next c.in_ok-period.ensures.0 (stops_next c.in_ok-deadline.ensures.0 (stops_here c.in_err-count.ensures)))))
-
-pub returns : goal.returns
-returns c = (
-  took_next c.in_ok-number.ensures.0 (took_next c.in_ok-period.ensures.0 (took_next c.in_ok-deadline.ensures.0 c.in_ok-count.ensures.0)),
-  (c.in_ok-number.ensures.1, c.in_ok-period.ensures.1, c.in_ok-deadline.ensures.1, c.in_ok-count.ensures.1),
-)
+    passed_on _ _ _ _ c.from_residual-in_err-count.ensures.1 ((draft c.in_ok-number.number c.in_ok-period.period c.in_ok-deadline.deadline, stops_next c.in_ok-number.ensures.0 (stops_next c.in_ok-period.ensures.0 (stops_next c.in_ok-deadline.ensures.0 (stops_here c.in_err-count.ensures)))))

@@ -1,33 +1,26 @@
-use Rattle.std.proofs.Common.{◌≡◌, ◌<◌, ◌≤◌, length, take, ◌∙◌, subst, arith}
-use Rattle.text.specs.JobText.{nodes_slots}
+use Rattle.std.proofs.Common.{rules, ◌≡◌, [], ◌∷◌, ◌++◌, length, sym, ap, subst, arith}
+use Rattle.std.proofs.lemmas.List.{length-append}
+use Rattle.few.specs.Few.{items}
+use Rattle.text.specs.JobText.{NodesFit, nodes_slots}
 use Rattle.text.specs.Take.{Takes}
-use Rattle.std.proofs.lemmas.List.{length-set, length-take-le}
-use Rattle.std.proofs.lemmas.Result.{err_from_is_err_and}
-use Rattle.text.proofs.Graphs.{nodes_more, nodes_stop, fits_more, fits_take}
+use Rattle.text.proofs.Passing.{passed_on}
+use Rattle.text.proofs.Graphs.{nodes_more, nodes_stop, fits_more}
 use Rattle.text.proofs.lines.Lines.nodes.Goals as goal
 
-pub returns-in_err-table : goal.returns-in_err-table
-returns-in_err-table c =
-    let p = err_from_is_err_and c.from_residual.result c.from_residual.ensures.1 in
+pub returns-in_err-node : goal.returns-in_err-node
+returns-in_err-node c =
     let inv = c.loop-v.invariant in
-    let stop = c.in_err-table.ensures in
-    let in' : c.loop-v.v ≤ length c.loop-v.table = omega (arith, inv.0, c.loop-v-test.true, c.requires) in
-    rw (p.1, p.2) (nodes_stop c.loop-v.v c.args.count c.loop-v.table stop.0 _ _ _ _ _ c.loop-v-test.true in' inv.1 stop.1)
+    let stop = c.in_err-node.ensures in
+    passed_on _ _ _ _ c.from_residual.ensures.1 (nodes_stop c.loop-v.v c.args.count (items c.loop-v.nodes) stop.0 _ _ _ _ _ c.loop-v-test.true inv.0 inv.1 stop.1)
 
 pub loop-v-preserved : goal.loop-v-preserved
 loop-v-preserved c =
     let inv = c.loop-v.invariant in
-    let is = c.in_ok-table.ensures in
-    let in' : c.loop-v.v < length c.loop-v.table = omega (arith, inv.0, c.loop-v-test.true, c.requires) in
-    (length-set _ _ _ ∙ inv.0, nodes_more c.loop-v.v c.loop-v.table _ _ _ _ _ _ _ in' inv.1 is.0, fits_more c.loop-v.v c.loop-v.table _ in' inv.2 is.1)
-
-pub returns : goal.returns
-returns c =
-    let inv = c.loop-v.invariant in
-    let table = c.loop-v.table in
-    let done : c.loop-v.v ≡ c.args.count = omega (arith, c.loop-v-test.false, c.loop-v.auto.v-end) in
-    let in' : c.args.count ≤ length table = omega (arith, inv.0, c.requires) in (
-      length-take-le c.args.count table in',
-      subst (λ n. Takes (nodes_slots 0 (take n table)) c.args.self.now c.loop-v.self) done inv.1,
-      fits_take c.args.count table in' (λ u l. inv.2 u (omega arith)),
+    let is = c.in_ok-node.ensures in
+    let v = c.loop-v.v in
+    let ns = items c.loop-v.nodes in
+    let grown : items c.push.new.self ≡ ns ++ c.in_ok-node.node ∷ [] = search rules in (
+      omega (arith, ap length grown, length-append ns (c.in_ok-node.node ∷ []), inv.0),
+      subst (λ ms. Takes (nodes_slots 0 ms) c.args.self.now c.node.new.self) (sym grown) (nodes_more v ns _ _ _ _ _ _ _ inv.0 inv.1 is.0),
+      subst NodesFit (sym grown) (fits_more v ns _ inv.0 inv.2 is.1),
     )
