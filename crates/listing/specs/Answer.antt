@@ -1,10 +1,19 @@
 -- What the seating program prints of a job text.
---   lines_below f n              the lines f gives for the numbers below n, one after the other
---   laid_out j ns c members w    the lines of the job j with the choice c: a line for each sub-task among the members
---   LaidOut text bs              the text is that of a job, and bs its lines for the first possible choice under the proportional rule
---   Answers text bs              bs is the answer to the text: its first fault, or 9 where no choice is possible, or the job laid out
-use Rattle.std.specs.Prelude.{◌≡◌, ℕ, zero, suc, ◌<◌, Bool, false, cond, ◌&&◌, ◌⊎◌, List, [], ◌++◌, length, slice_index, slice_index_or}
-use Rattle.listing.specs.Lines.{refusal_line, title, node_line}
+--   lines_below f n      the lines f gives for the numbers below n, one after the other
+--   line_at l v n        the line of the node n with the number v, if it is a sub-task among the members
+--   line_text o          the bytes of that line, or none
+--   line_of l v          those of the node with the number v
+--   laid_out l           the lines of a job that is laid out: its title, and a line for each sub-task among the members
+--   Refuses text r       the text is refused for r: that of no job, by its first fault, or that of a job without a possible choice
+--   LaysOut text l       the text is that of the job of l, whose choice is the first possible one, and whose windows follow the proportional rule
+--   Answers text bs      bs is the answer to the text: its refusal, or the job laid out
+use Rattle.std.specs.Prelude.{◌≡◌, ℕ, zero, suc, ◌<◌, false, cond, ◌&&◌, ◌⊎◌, List, [], ◌++◌, length, slice_index_or, Option, Some, None}
+use Rattle.listing.specs.Lines.{title, node_line}
+use Rattle.listing.specs.Refusal.{refusal_text}
+use Rattle.listing.specs.declared.laid_out.LaidOut.{LaidOut}
+use Rattle.listing.specs.declared.lines.NodeLine.{NodeLine}
+use Rattle.listing.specs.declared.refusal.Refusal.{Refusal}
+use Rattle.listing.specs.declared.refusal.Refusal.TheVariants.{Long, NoChoice, Fault}
 use Rattle.slack.specs.Proportional.{proportional}
 use Rattle.task.specs.declared.job.Job.{Job}
 use Rattle.task.specs.declared.node.Node.{Node}
@@ -15,47 +24,41 @@ use Rattle.task.specs.Graph.{at}
 use Rattle.task.specs.Node.{is_sub_task}
 use Rattle.task.specs.Picks.{numbers}
 use Rattle.task.specs.Tables.{Tells}
-use Rattle.text.specs.declared.fault.Fault.{Fault}
-use Rattle.text.specs.Fault.{number_of, place_of}
 use Rattle.text.specs.JobText.{Reads, Refused}
-use Rattle.window.specs.declared.layout.Layout.{Layout}
-use Rattle.window.specs.declared.layout.Windows.{Windows}
+use Rattle.window.specs.declared.layout.Lengths.{Lengths}
 use Rattle.window.specs.Lengths.{IsLengths}
 use Rattle.window.specs.Path.{Possible, FirstPossible}
-use Rattle.window.specs.Windows.{IsWindows}
+use Rattle.window.specs.Windows.{IsWindows, deadline_of, offset_of}
 
 abbrev pub lines_below : (ℕ → List ℕ) → ℕ → List ℕ
 lines_below f zero = []
 lines_below f (suc n) = lines_below f n ++ f n
 
-abbrev pub line_of : List Node → List Bool → Windows → ℕ → List ℕ
-line_of ns members w v = cond (slice_index_or members v false && is_sub_task (at ns v)) (node_line v (slice_index w.offset v) (slice_index w.deadline v)) []
+abbrev pub line_at : LaidOut → ℕ → Node → Option NodeLine
+line_at l v n = cond (slice_index_or l.members v false && is_sub_task n) (Some (record { node = v; offset = offset_of l.windows v; deadline = deadline_of l.windows v })) None
 
-abbrev pub laid_out : ℕ → List Node → ℕ → List Bool → Windows → List ℕ
-laid_out j ns c members w = title j c ++ lines_below (line_of ns members w) (length ns)
+abbrev pub line_text : Option NodeLine → List ℕ
+line_text (Some l) = node_line l.node l.offset l.deadline
+line_text None = []
 
-pub record LaidOut (text bs : List ℕ) : Type 0 where
-  pub job : Job
-  pub choice : ℕ
-  pub members : List Bool
-  pub layout : Layout
-  pub reads : Reads text job
-  pub chosen : FirstPossible (graph job) job.deadline choice
-  pub tells : Tells (Member (graph job) choice) members
-  pub lengths : IsLengths (graph job) choice layout.lengths
-  pub windows : IsWindows (graph job) choice job.deadline proportional layout.lengths layout.windows
-  pub printed : bs ≡ laid_out job.number (graph job) choice members layout.windows
+abbrev pub line_of : LaidOut → ℕ → List ℕ
+line_of l v = line_text (line_at l v (at (graph l.job) v))
 
-pub record NoChoice (text bs : List ℕ) : Type 0 where
-  pub job : Job
-  pub reads : Reads text job
-  pub none : (c : ℕ) → c < numbers Choice (graph job) → Possible (graph job) c job.deadline → ⊥
-  pub printed : bs ≡ refusal_line 9 0
+abbrev pub laid_out : LaidOut → List ℕ
+laid_out l = title l.job.number l.choice ++ lines_below (line_of l) (length (graph l.job))
 
-pub record Faulty (text bs : List ℕ) : Type 0 where
-  pub fault : Fault
-  pub refused : Refused text fault
-  pub printed : bs ≡ refusal_line (number_of fault) (place_of fault)
+abbrev pub Refuses : List ℕ → Refusal → Type 0
+Refuses text Long = ⊥
+Refuses text NoChoice = (job : Job) × Reads text job × ((c : ℕ) → c < numbers Choice (graph job) → Possible (graph job) c job.deadline → ⊥)
+Refuses text (Fault f) = Refused text f
+
+pub record LaysOut (text : List ℕ) (l : LaidOut) : Type 0 where
+  pub reads : Reads text l.job
+  pub chosen : FirstPossible (graph l.job) l.job.deadline l.choice
+  pub tells : Tells (Member (graph l.job) l.choice) l.members
+  pub lengths : Lengths
+  pub measured : IsLengths (graph l.job) l.choice lengths
+  pub windows : IsWindows (graph l.job) l.choice l.job.deadline proportional lengths l.windows
 
 abbrev pub Answers : List ℕ → List ℕ → Type 0
-Answers text bs = Faulty text bs ⊎ (NoChoice text bs ⊎ LaidOut text bs)
+Answers text bs = ((r : Refusal) × Refuses text r × (bs ≡ refusal_text r)) ⊎ ((l : LaidOut) × LaysOut text l × (bs ≡ laid_out l))

@@ -1,3 +1,4 @@
 pub mod Lines
+pub mod Refusal
 pub mod Answer
 pub mod Listing

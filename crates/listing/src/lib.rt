@@ -1,6 +1,8 @@
-//! What the seating program prints of a job text.
+//! What the seating program prints.
 #![tactic(auto)]
 
 pub mod answer;
-pub mod lines;
+mod laid_out;
+mod lines;
 pub mod listing;
+pub mod refusal;

@@ -1,39 +1,37 @@
-//! The lines that the seating program prints.
-ghost use Rattle.std.specs.Prelude.{◌≡◌, IfOk, string_bytes};
-ghost use Rattle.listing.specs.Lines.{node_line, refusal_line, title};
+//! The lines of a job that is laid out.
+ghost use Rattle.std.specs.Prelude.{Some};
+ghost use Rattle.listing.specs.Lines.{node_line, title};
 
-use std::alloc::{AllocError, Global};
+use std::fmt;
 use task::node::Ticks;
 
-/// When a sub-task may run and is due, counted from the arrival.
-#[derive(Clone, Copy)]
-pub(crate) struct Window {
+/// The first lines of a job.
+#[derive(Debug, Clone, Copy, PartialEq, Eq)]
+pub(crate) struct Title {
+    pub(crate) job: u32,
+    pub(crate) choice: u32,
+}
+
+impl fmt::Display for Title {
+    ghost output = { λ t. Some (title t.job t.choice) };
+
+    fn fmt<W: fmt::Write>(&self, f: &mut fmt::Formatter<W>) -> fmt::Result {
+        writeln!(f, "answer=0\njob={}\nchoice={}", self.job, self.choice)
+    }
+}
+
+/// The line of a sub-task: when it may run and is due, counted from the arrival.
+#[derive(Debug, Clone, Copy, PartialEq, Eq)]
+pub(crate) struct NodeLine {
+    pub(crate) node: usize,
     pub(crate) offset: Ticks,
     pub(crate) deadline: Ticks,
 }
 
-/// The answer where a text is refused, or the choice is.
-pub fn refusal_line(heap: Global, number: u32, place: u32) -> Result<String, AllocError>
-    ensures { IfOk result (λ s. string_bytes s ≡ refusal_line number place) }
-{
-    format!(in heap; "answer={number},{place}\n")
-}
+impl fmt::Display for NodeLine {
+    ghost output = { λ l. Some (node_line l.node l.offset l.deadline) };
 
-/// The first lines where a job is laid out.
-pub(crate) fn title(heap: Global, number: u32, choice: u32) -> Result<String, AllocError>
-    ensures { IfOk result (λ s. string_bytes s ≡ title number choice) }
-{
-    format!(in heap; "answer=0\njob={number}\nchoice={choice}\n")
-}
-
-/// The window of a sub-task.
-pub(crate) fn node_line(
-    heap: Global,
-    node: usize,
-    offset: Ticks,
-    deadline: Ticks,
-) -> Result<String, AllocError>
-    ensures { IfOk result (λ s. string_bytes s ≡ node_line node offset deadline) }
-{
-    format!(in heap; "node={node},{offset},{deadline}\n")
+    fn fmt<W: fmt::Write>(&self, f: &mut fmt::Formatter<W>) -> fmt::Result {
+        writeln!(f, "node={},{},{}", self.node, self.offset, self.deadline)
+    }
 }

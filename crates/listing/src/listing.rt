@@ -1,10 +1,10 @@
 //! All that the seating program prints.
-ghost use Rattle.std.specs.Prelude.{IfOk, string_bytes};
-ghost use Rattle.listing.specs.Listing.{Answered, Lists};
+ghost use Rattle.std.specs.Prelude.{IfOk, MatchResult, string_bytes};
+ghost use Rattle.listing.specs.Listing.{Answered, Lists, Opens, Stops};
 ghost use Rattle.std.specs.Option.{option_map};
 
 use crate::answer::answer;
-use crate::lines::refusal_line;
+use crate::refusal::Refusal;
 use std::alloc::{AllocError, Global};
 use text::calendar_text::read_calendar;
 use text::texts::first_text;
@@ -12,7 +12,20 @@ use text::texts::first_text;
 /// The most bytes that are read.
 pub const MOST: usize = 65_536;
 
+/// The job texts of an input that is not too long and whose platform text is right.
+fn job_texts(input: &[u8]) -> Result<Option<&[u8]>, Refusal>
+    ensures { MatchResult result (λ jobs. Opens input.now (option_map (λ x. x.now) jobs)) (Stops input.now) }
+{
+    if input.len() > MOST {
+        return Err(Refusal::Long);
+    }
+    let (platform, jobs) = first_text(input);
+    let _calendar = read_calendar(platform)?;
+    Ok(jobs)
+}
+
 /// The answers to job texts, one after the other.
+#[tactic(auto, using(crate::proofs::Leftover::leftover_falls))]
 fn answers(heap: Global, texts: Option<&[u8]>) -> Result<String, AllocError>
     ensures { IfOk result (λ s. Answered (option_map (λ x. x.now) texts.entry) (string_bytes s)) }
 {
@@ -20,7 +33,7 @@ fn answers(heap: Global, texts: Option<&[u8]>) -> Result<String, AllocError>
     let mut left = texts;
     while let Some(input) = left {
         let (text, more) = first_text(input);
-        lines.push_str(answer(heap, text)?.as_str())?;
+        lines.push_str(&answer(heap, text)?)?;
         left = more;
     }
     Ok(lines)
@@ -30,12 +43,8 @@ fn answers(heap: Global, texts: Option<&[u8]>) -> Result<String, AllocError>
 pub fn listing(heap: Global, input: &[u8]) -> Result<String, AllocError>
     ensures { IfOk result (λ s. Lists input.now (string_bytes s)) }
 {
-    if input.len() > MOST {
-        return refusal_line(heap, 1, 0);
-    }
-    let (platform, jobs) = first_text(input);
-    match read_calendar(platform) {
-        Ok(_calendar) => answers(heap, jobs),
-        Err(fault) => refusal_line(heap, fault.number(), fault.place()),
+    match job_texts(input) {
+        Ok(jobs) => answers(heap, jobs),
+        Err(refusal) => format!(in heap; "{refusal}"),
     }
 }
