@@ -148,7 +148,7 @@ mod tests {
         assert_eq!(rt; job.number, 7);
         assert_eq!(rt; job.period, 1200);
         assert_eq!(rt; job.deadline, 1000);
-        assert_eq!(rt; job.count, 5);
+        assert_eq!(rt; job.nodes.len(), 5);
         Ok(())
     }
 
@@ -166,8 +166,12 @@ mod tests {
         let [.., (text, _, _)] = JOBS;
         match read_job(text) {
             Ok(job) => {
-                let ends = Layout::of(&job, 1, rule).windows.deadline;
-                Ok((ends[0], ends[3], ends[4]))
+                let windows = Layout::of(&job, 1, rule).windows;
+                Ok((
+                    windows[0].deadline,
+                    windows[3].deadline,
+                    windows[4].deadline,
+                ))
             }
             Err(_) => Err(Fail::new("refused")),
         }
