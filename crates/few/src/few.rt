@@ -11,6 +11,7 @@ pub struct Few<T, const N: usize> {
     ghost fits: { len ≤ N },
 }
 
+// Clone and Copy are written out, since a derive cannot stand over the ghost fields of a generic struct.
 impl<T: Copy, const N: usize> Clone for Few<T, N> {
     ghost is_clone = { λ x y. y ≡ x };
 

@@ -20,7 +20,7 @@ impl fmt::Display for Full {
 impl Error for Full {}
 
 impl<T: Copy, const N: usize> Few<T, N> {
-    /// No items; the blank fills the places.
+    /// No items; the blank fills the places. It is needed, since places hold a value from the start.
     pub fn new(blank: T) -> Few<T, N>
         ensures { items result ≡ [] }
     {
