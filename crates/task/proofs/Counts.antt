@@ -1,5 +1,5 @@
 -- How many items at the front of a list pass a test, and how many of its places.
-use Rattle.std.proofs.Common.{◌≡◌, ℕ, zero, suc, ◌≤◌, Bool, false, List, length, get_or, take, min, refl, ap, sym, ◌∙◌, inl, inr, add-one, arith}
+use Rattle.std.proofs.Common.{◌≡◌, ℕ, zero, suc, Bool, false, List, length, get_or, take, refl, ap, sym, ◌∙◌, inl, inr, add-one, arith}
 use Rattle.std.specs.List.{count_by}
 use Rattle.std.proofs.lemmas.Bool.{cases_Bool, cases_lt}
 use Rattle.std.proofs.lemmas.List.{get_or_past, take_all}
@@ -24,12 +24,3 @@ counted p d out xs (suc n) =
 
 pub counted_all : {X : Type 0} (p : X → Bool) (d : X) → p d ≡ false → (xs : List X) → count_by p xs ≡ count_below (λ i. p (get_or xs i d)) (length xs)
 counted_all p d out xs = ap (λ ys. count_by p ys) (sym (take_all (length xs) xs (omega arith))) ∙ counted p d out xs (length xs)
-
--- the same, where the front ends with the list
-pub counted_within : {X : Type 0} (p : X → Bool) (d : X) → p d ≡ false → (xs : List X) (n m : ℕ) → length xs ≤ m → count_by p (take (min n m) xs) ≡ count_below (λ i. p (get_or xs i d)) n
-counted_within p d out xs n m long = elim (cases_lt n m) [
-  | inl below ↦ let e : min n m ≡ n = omega arith in ap (λ k. count_by p (take k xs)) e ∙ counted p d out xs n
-  | inr past ↦
-      let same = take_all (min n m) xs (omega arith) ∙ sym (take_all n xs (omega arith)) in
-      ap (λ ys. count_by p ys) same ∙ counted p d out xs n
-]

@@ -1,13 +1,12 @@
 -- Tables of tests and of nodes: what stands past their end.
-use Rattle.std.proofs.Common.{◌≡◌, ℕ, ◌<◌, ◌≤◌, Bool, true, false, cond, ◌&&◌, leb, List, [], length, get_or, refl, sym, ap, ◌∙◌, inl, inr, arith}
+use Rattle.std.proofs.Common.{◌≡◌, ℕ, ◌<◌, ◌≤◌, Bool, true, false, List, [], length, get_or, refl, sym, ap, ◌∙◌, inl, inr, arith}
 use Rattle.std.proofs.lemmas.List.{get_or_past}
 use Rattle.std.proofs.lemmas.Bool.{cases_lt, both_ways}
 use Rattle.task.specs.declared.node.Node.{Node}
 use Rattle.task.specs.declared.node.Numbering.{Numbering}
 use Rattle.task.specs.declared.node.Numbering.TheVariants.{Choice, Branch}
-use Rattle.task.specs.Graph.{edge, ins, outs}
-use Rattle.task.specs.Node.{after, missing, covers, is_fork}
-use Rattle.task.specs.Nodes.{ForksFit, fork_fits}
+use Rattle.task.specs.Graph.{edge}
+use Rattle.task.specs.Node.{after, missing, covers}
 use Rattle.task.specs.Tables.{leads}
 
 -- a test that is true stands in the table
@@ -46,10 +45,3 @@ none_past rows long u v past = no_row rows u v (omega arith)
 
 pub no_edge : (ns : List Node) → length ns ≤ 24 → (u v : ℕ) → 24 ≤ v → edge ns u v ≡ false
 no_edge ns few u v past = ap (λ n. get_or (after n) u false) (get_or_past ns v missing (omega arith))
-
--- where there is no node, there is no fork at fault
-pub forks_fit : (ns : List Node) → ((v : ℕ) → v < length ns → fork_fits ns v ≡ true) → ForksFit ns
-forks_fit ns inside v = elim (cases_lt v (length ns)) [
-  | inl below ↦ inside v below
-  | inr past ↦ ap (λ n. cond (is_fork n) (leb 1 (ins ns v) && (leb 2 (outs ns v) && leb (outs ns v) 3)) true) (get_or_past ns v missing past)
-]

@@ -1,4 +1,4 @@
-//! Edges of a graph, and how many there are.
+//! Edges of a graph, and how many there are: of slices, since nodes are asked before they make a job.
 ghost use Rattle.std.specs.Prelude.{◌≡◌, length};
 ghost use Rattle.task.specs.Graph.{at, count_below, ins, rank};
 ghost use Rattle.task.specs.Node.{covers};
@@ -9,8 +9,11 @@ use crate::node::{Node, Numbering};
 pub(crate) fn rank(nodes: &[Node], u: usize, v: usize) -> usize
     ensures { result ≡ rank nodes.now u v }
 {
-    let below = &nodes[..v.min(nodes.len())];
-    below.iter().filter(|node| node.comes_after(u)).count()
+    nodes
+        .iter()
+        .take(v)
+        .filter(|node| node.comes_after(u))
+        .count()
 }
 
 /// How many edges lead to `v` from nodes below it.
@@ -20,9 +23,7 @@ pub(crate) fn edges_in(nodes: &[Node], v: usize) -> usize
     let Some(node) = nodes.get(v) else {
         return 0;
     };
-    let after = node.after().as_slice();
-    let below = &after[..v.min(after.len())];
-    below.iter().filter(|edge| **edge).count()
+    node.after().iter().take(v).filter(|edge| **edge).count()
 }
 
 /// How many forks there are of which such a number picks an edge.

@@ -1,4 +1,4 @@
-//! Jobs: conditional task graphs, their choices and branches, and the windows of their sub-tasks.
+//! Jobs: conditional task graphs, their choices and branches.
 #![tactic(auto)]
 
 pub mod concrete;

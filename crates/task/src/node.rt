@@ -57,6 +57,7 @@ impl Node {
     }
 }
 
+// A kind and no closure: the definitions of choices and of branch numbers go by it.
 /// What a number picks edges of: a choice of the alternatives, a branch number of the conditionals.
 #[derive(Debug, Clone, Copy, PartialEq, Eq)]
 pub enum Numbering {

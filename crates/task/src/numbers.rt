@@ -28,7 +28,7 @@ impl Job {
     {
         let nodes = self.graph();
         let mut total = 1;
-        // From the last node on, as the numbers are counted: so no product on the way is above 81.
+        // From the last node on, as the numbers are counted, so no product on the way is above 81: `product` leaves its bound open.
         for u in (0..nodes.len()).rev() {
             total *= ways(nodes, numbering, u);
         }

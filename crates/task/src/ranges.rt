@@ -2,7 +2,7 @@
 ghost use Rattle.std.specs.Prelude.{◌≡◌};
 ghost use Rattle.task.specs.Ranges.{fits};
 
-use crate::node::Ticks;
+use crate::node::{NODES, Ticks};
 
 /// A belt cycle, in ticks: every period divides it.
 pub const BELT_CYCLE: Ticks = 14_400;
@@ -27,7 +27,7 @@ impl Field {
             Field::Number(number) => (1..=65_535).contains(&number),
             Field::Period(period) => 1 <= period && BELT_CYCLE % period == 0,
             Field::Deadline { period, deadline } => (1..=period).contains(&deadline),
-            Field::Count(count) => (1..=24).contains(&count),
+            Field::Count(count) => (1..=NODES as u32).contains(&count),
             Field::Tag(tag) => tag <= 7,
             Field::Work(ticks) => (1..=BELT_CYCLE).contains(&ticks),
         }

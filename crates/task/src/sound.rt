@@ -1,8 +1,7 @@
 //! Making a job of its numbers and nodes.
 ghost use Rattle.std.specs.Prelude.{◌≡◌, ℕ, ◌<◌, ◌≤◌, true, false, ◌&&◌, length, Decides, MatchOption, MatchResult};
 ghost use Rattle.task.specs.Flaws.{Flawed, HeaderFits, MadeOf, graph};
-ghost use Rattle.task.specs.Graph.{Upward, at};
-ghost use Rattle.task.specs.Node.{after};
+ghost use Rattle.task.specs.Graph.{Upward};
 ghost use Rattle.task.specs.Nodes.{Below, ForksFit, NumbersFit, Sound, few_forks, fork_fits};
 ghost use Rattle.task.specs.Ranges.{numbers_fit};
 
@@ -53,18 +52,10 @@ fn are_numbers_fit(node: &Node) -> bool
     }
 }
 
-fn is_node_fit(nodes: &[Node], v: usize) -> bool
-    ensures { Decides result ((numbers_fit (at nodes.now v) ≡ true) × Below v (after (at nodes.now v))) }
-{
-    nodes
-        .get(v)
-        .is_some_and(|node| are_numbers_fit(node) && is_below(node.after(), v))
-}
-
 fn are_nodes_fit(nodes: &[Node]) -> bool
     ensures { Decides result (NumbersFit nodes.now × Upward nodes.now) }
 {
-    (0..nodes.len()).all(|v| is_node_fit(nodes, v))
+    nodes.iter().enumerate().all(|(v, node)| are_numbers_fit(node) && is_below(node.after(), v))
 }
 
 fn is_header_fit(number: u32, period: Ticks, deadline: Ticks, count: usize) -> bool
@@ -121,14 +112,11 @@ impl Job {
         if !are_forks_few(nodes) {
             return Err(Flaw::Forks);
         }
-        let Some(nodes) = Few::from_slice(BLANK, nodes) else {
-            return Err(Flaw::Range);
-        };
         Ok(Job {
             number,
             period,
             deadline,
-            nodes,
+            nodes: Few::from_slice(BLANK, nodes).unwrap(),
         })
     }
 }

@@ -1,13 +1,20 @@
-use Rattle.std.proofs.Common.{◌≡◌, Bool, false, length, get_or, take, min, refl, ◌∙◌, rules, arith}
-use Rattle.std.specs.List.{count_by}
+use Rattle.std.proofs.Common.{◌≡◌, Bool, false, get_or, take, filter, length, refl, ◌∙◌, rules}
+use borrow.Author.Tests.{tests}
+use Rattle.std.proofs.lemmas.Iterator.{YieldsList-from_slice, YieldsList-from_take}
+use Rattle.std.proofs.lemmas.Iterator.Consumers.{YieldsList-at, YieldsList-from_filter, count_from_yields_List}
+use Rattle.std.proofs.lemmas.List.Sums.{length-filter}
 use Rattle.task.specs.declared.node.Node.{Node}
 use Rattle.task.specs.Node.{after, missing}
-use Rattle.task.proofs.Counts.{counted_within}
+use Rattle.task.proofs.Counts.{counted}
 use Rattle.task.proofs.graph.rank.Goals as goal
 
 pub returns : goal.returns
 returns c =
     let nodes = c.args.nodes.now in
+    let v = c.args.v in
     let p : Node → Bool = λ n. get_or (after n) c.args.u false in
-    let is : c.count.result ≡ count_by p (take (min c.args.v (length nodes)) nodes) = search rules in
-    is ∙ counted_within p missing refl nodes c.args.v (length nodes) (omega arith)
+    let taken = YieldsList-from_take v (YieldsList-at c.take.ensures.source (YieldsList-from_slice nodes (search rules))) c.take.ensures.count in
+    let is : c.count.result ≡ length (filter p (take v nodes)) =
+    count_from_yields_List _ c.count.result c.count.ensures.ran
+    (YieldsList-from_filter _ p (YieldsList-at c.filter.ensures.source taken) c.filter.ensures.closure (λ x b q k. search (rules, tests))) in
+    is ∙ length-filter p (take v nodes) ∙ counted p missing refl nodes v
