@@ -1,4 +1,5 @@
 -- The lengths of a concrete graph.
+--   outside                          what stands where there is no node
 --   head l v, tail l v, level l v    what l has of the node v
 --   LargestOf ns c value G           G is the largest value at a node of the concrete graph of the choice c
 --   IsLengths ns c l    l has head, tail and level of each node of the concrete graph of the choice c, 0 at the others,

@@ -1,4 +1,4 @@
--- What the tables of lengths keep, node by node.
+-- What lengths and windows keep, node by node.
 --   Ascends rows          every edge of the table leads to a higher node, below 24
 --   Within n members      all members are below n
 --   Light weights         no weight is above 14,400

@@ -1,6 +1,7 @@
 -- The windows of the sub-tasks of a concrete graph.
 --   position d l v                where the node v stands, in a job with the deadline d
 --   Before ns c u v               u is a predecessor of v in the concrete graph
+--   closed                        the window of what is outside the graph
 --   offset_of ws v, deadline_of ws v    the window of the node v, counted from the arrival
 --   Opens ns c due v o            o is the largest of the moments at which the predecessors of v are due, 0 where there is none
 --   IsWindows ns c d local l ws   ws has the offset and the local deadline of each node of the concrete graph, 0 at the others

@@ -22,6 +22,7 @@ pub struct Lengths {
     pub depth: u32,
 }
 
+// 0 and no option where there is no node: the greatest end of the predecessors is then one fold.
 /// The window of a node, counted from the arrival. A fork's end is its offset, and a node outside the graph has 0.
 #[derive(Debug, Clone, Copy, PartialEq, Eq)]
 pub struct Window {
@@ -38,6 +39,7 @@ pub struct Layout {
     pub windows: [Window; NODES],
 }
 
+// A kind and no closure: the definitions of work and of counts go by it.
 /// What a node adds to the length of a path: its ticks, or 1 where it is a sub-task.
 #[derive(Debug, Clone, Copy, PartialEq, Eq)]
 pub enum Measure {

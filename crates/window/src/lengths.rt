@@ -60,6 +60,7 @@ fn column(edges: &Edges, v: usize) -> [bool; NODES]
 }
 
 /// The greatest sum of weights on a path that begins at each node.
+// Not one function with the one before: order and row would both be parameters of a loop of one line.
 fn longest_from(edges: &Edges, weights: &[u32; NODES]) -> [u32; NODES]
     requires { (Ascends edges.now) × (Light weights.now) }
     ensures { (v : ℕ) → Settled (λ w u. leads edges.now u w) weights.now result v }
