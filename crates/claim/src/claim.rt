@@ -1,4 +1,4 @@
-//! What a part asks of its engine, as tables.
+//! What a part asks of its engine.
 ghost use Rattle.std.specs.Prelude.{◌≡◌, ◌+◌, ◌≤◌, length};
 ghost use Rattle.few.specs.Few.{items};
 
@@ -12,6 +12,7 @@ pub const CUTS: usize = 25;
 #[derive(Debug, Clone, Copy, PartialEq, Eq)]
 pub struct Cut {
     pub from: Ticks,
+    // As many places as the claim has ends are read, so a length of its own would say the same twice.
     pub most: [Ticks; NODES],
 }
 

@@ -16,9 +16,6 @@ use Rattle.task.specs.Node.{missing, is_sub_task, ticks}
 use Rattle.task.specs.Ranges.{numbers_fit}
 use Rattle.theory.specs.Pattern.{FitsIn, WellFormed, Window}
 
-pub nodes_few : (p : Plan) → length (nodes_of p) ≤ 24
-nodes_few p = leb-true (length (nodes_of p)) 24 (and_parts (leb 1 (length (nodes_of p))) (leb (length (nodes_of p)) 24) p.job.counted).1
-
 pub period_divides : (p : Plan) → 14400 % p.job.period ≡ 0
 period_divides p = eqb-true _ 0 (and_parts (leb 1 p.job.period) (eqb (14400 % p.job.period) 0) p.job.periodic).1
 

@@ -15,13 +15,12 @@ use Rattle.task.specs.declared.node.Node.{Node}
 use Rattle.task.specs.declared.node.Node.TheVariants.{SubTask, Alternative, Conditional}
 use Rattle.task.specs.Graph.{at}
 use Rattle.task.specs.Node.{ticks}
-use Rattle.window.specs.Windows.{deadline_of, offset_of}
+use Rattle.window.specs.Windows.{closed}
 
 abbrev pub task_at : Plan → ℕ → Task
 task_at p v = record {
   node = v;
-  offset = offset_of p.windows v;
-  deadline = deadline_of p.windows v;
+  window = slice_index_or p.windows v closed;
   ticks = ticks (at (nodes_of p) v);
 }
 

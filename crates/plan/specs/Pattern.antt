@@ -11,7 +11,7 @@ use Rattle.plan.specs.Plan.{reached_rows}
 use Rattle.theory.specs.Pattern.{Pattern, Window}
 
 abbrev pub window_of : Task → Window
-window_of t = record { offset = t.offset; deadline = t.deadline; ticks = t.ticks }
+window_of t = record { offset = t.window.offset; deadline = t.window.deadline; ticks = t.ticks }
 
 abbrev pub branch_of : List Task → List Bool → List Window
 branch_of ts row = map window_of (filter (λ (t : Task). slice_index_or row t.node false) ts)

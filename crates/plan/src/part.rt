@@ -4,13 +4,13 @@ ghost use Rattle.few.specs.Few.{items};
 
 use few::few::Few;
 use task::node::{NODES, Ticks};
+use window::layout::Window;
 
 /// A sub-task of a plan: its node, its window counted from an arrival, and its work.
 #[derive(Debug, Clone, Copy, PartialEq, Eq)]
 pub struct Task {
     pub node: usize,
-    pub offset: Ticks,
-    pub deadline: Ticks,
+    pub window: Window,
     pub ticks: Ticks,
 }
 

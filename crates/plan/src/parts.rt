@@ -8,12 +8,15 @@ use crate::part::{Part, Task};
 use crate::plan::Plan;
 use few::few::Few;
 use task::node::{NODES, Node};
+use window::layout::Window;
 
 /// A task that fills the places of a list after the last one.
 const BLANK: Task = Task {
     node: 0,
-    offset: 0,
-    deadline: 0,
+    window: Window {
+        offset: 0,
+        deadline: 0,
+    },
     ticks: 0,
 };
 
@@ -33,8 +36,7 @@ impl Plan {
                 },
             ) if is_member && *own == tag => Some(Task {
                 node: v,
-                offset: self.windows[v].offset,
-                deadline: self.windows[v].deadline,
+                window: self.windows[v],
                 ticks: *ticks,
             }),
             _ => None,
@@ -46,6 +48,7 @@ impl Plan {
         ensures { tasks_in result ≡ part_of self.now tag }
     {
         let mut tasks: Few<Task, NODES> = Few::new(BLANK);
+        // The number of a node is what is asked for.
         for v in 0..self.job.graph().len() {
             if let Some(task) = self.task(tag, v) {
                 tasks.push(task).unwrap();

@@ -34,7 +34,8 @@ impl Plan {
     pub fn of<R: SlackRule>(job: &Job, choice: u32, rule: &R) -> Option<Plan>
         ensures { MatchOption result (Possible (graph job.now) choice job.now.deadline → ⊥) (λ p. Possible (graph job.now) choice job.now.deadline × IsPlan (R.SlackRule.local rule.now) job.now choice p) }
     {
-        if !is_possible(job, choice) {
+        let possible = is_possible(job, choice);
+        if !possible {
             return None;
         }
         let members = job.concrete(choice).members;

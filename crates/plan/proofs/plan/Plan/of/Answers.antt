@@ -5,12 +5,12 @@ use Rattle.plan.proofs.plan.Plan.of.Goals as goal
 
 pub invariant_of-result : goal.invariant_of-result
 invariant_of-result g c =
-    let holds = c.of.ensures.holds (c.is_possible.ensures.0 c.if-not-is_possible.false) in
+    let holds = c.of.ensures.holds (c.is_possible-possible.ensures.0 c.if-not-possible.false) in
     record {
       some = omega (arith, c.reached_by_branch-reached.ensures.many, branches_some c.args.job.now);
       roomy = λ v member sub_task. holds.roomy v ((c.concrete.ensures.nodes v).0 member) sub_task;
       timely = λ v member sub_task. holds.timely v ((c.concrete.ensures.nodes v).0 member) sub_task;
     }
 
-pub returns-then-not-is_possible : goal.returns-then-not-is_possible
-returns-then-not-is_possible g c = λ p. both_ways _ c.if-not-is_possible.true (c.is_possible.ensures.1 p)
+pub returns-then-not-possible : goal.returns-then-not-possible
+returns-then-not-possible g c = λ p. both_ways _ c.if-not-possible.true (c.is_possible-possible.ensures.1 p)
