@@ -7,7 +7,7 @@ use Rattle.cyclic.specs.Fewest.{fewest}
 use Rattle.cyclic.specs.Ones.{mark, ones}
 use Rattle.cyclic.specs.FewestLaws.{fewest_any}
 use Rattle.engine.specs.declared.course.Course.{Course}
-use Rattle.engine.specs.Calendar.{calendar, cycle_of, idle, quota_of, supply_of}
+use Rattle.engine.specs.Calendar.{calendar, cycle_of, idle, marks_of, quota_of, supply_of}
 use Rattle.engine.specs.Course.{served}
 use Rattle.engine.specs.Supply.{NoneServed}
 
@@ -29,9 +29,13 @@ fewest_idle n =
     let none = ones_idle 0 n in
     omega arith
 
+-- past the last engine
+marks_past : (cs : List Course) (e : ℕ) → length cs ≤ e → marks_of cs e ≡ idle
+marks_past cs e past = get_or_past (calendar cs) e idle (omega (arith, length-map cs served))
+
 pub none_served : (cs : List Course) (e : ℕ) → length cs ≤ e → NoneServed (supply_of cs e) (cycle_of cs e) (quota_of cs e)
 none_served cs e past =
-    let is = get_or_past (calendar cs) e idle (omega (arith, length-map cs served)) in
+    let is = marks_past cs e past in
     record {
       idle = λ k. ap (λ (ms : List Bool). fewest ms k) is ∙ fewest_idle k;
       one = ap length is;

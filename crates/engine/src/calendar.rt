@@ -15,7 +15,7 @@ use crate::tags::Tags;
 use few::few::Few;
 
 /// Engines that serve the ticks of their marks, over and over.
-#[derive(Clone, Copy)]
+#[derive(Debug, Clone, Copy, PartialEq, Eq)]
 pub struct Calendar {
     tags: Tags,
     courses: Few<Course, ENGINES>,
@@ -27,9 +27,10 @@ fn courses(marks: &[Marks]) -> Option<Few<Course, ENGINES>>
     requires { (1 ≤ length marks.now) × (length marks.now ≤ 16) }
     ensures { MatchOption result (AllFit marks.now → ⊥) (λ cs. AllFit marks.now × (calendar (items cs) ≡ map marked marks.now)) }
 {
+    // The first course fills the places.
     let mut courses = Few::new(Course::new(marks.first()?)?);
     for each in marks {
-        courses.push(Course::new(each)?).ok()?;
+        courses.push(Course::new(each)?).unwrap();
     }
     Some(courses)
 }

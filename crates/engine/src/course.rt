@@ -8,9 +8,10 @@ use crate::round::Round;
 use crate::sums::{ROUND, Sums};
 
 /// A round of marks, and the fewest ticks that it serves among n in a row, for each n up to a round of them.
-#[derive(Clone, Copy)]
+#[derive(Debug, Clone, Copy, PartialEq, Eq)]
 pub(crate) struct Course {
     pub(crate) round: Round,
+    /// A place beyond the round has the fewest in a whole round.
     pub(crate) least: [u32; ROUND],
     ghost tabled: { ((n : ℕ) → n ≤ length (marked round.marks) → slice_index least n ≡ fewest (marked round.marks) n) },
 }

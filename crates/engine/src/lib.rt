@@ -1,4 +1,4 @@
-//! Engines: who they are, what they serve, and in which order they are tried.
+//! Engines: who they are and what they serve.
 #![tactic(auto)]
 
 pub mod calendar;

@@ -7,7 +7,7 @@ use few::few::Few;
 /// The most marks that an engine has.
 pub const MARKS: usize = 240;
 
-/// A belt cycle in ticks.
+/// A belt cycle in ticks. It stands here too, since this crate does not know `task`.
 const BELT_CYCLE: usize = 14_400;
 
 /// Marks: true for a served tick. After the last comes the first again.

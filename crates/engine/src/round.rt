@@ -5,7 +5,7 @@ ghost use Rattle.engine.specs.Marks.{Fit, marked};
 use crate::marks::Marks;
 
 /// Marks of which there are 1 to 240, a divisor of a belt cycle.
-#[derive(Clone, Copy)]
+#[derive(Debug, Clone, Copy, PartialEq, Eq)]
 pub(crate) struct Round {
     pub(crate) marks: Marks,
     ghost some: { 1 ≤ length (marked marks) },

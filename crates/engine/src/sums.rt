@@ -4,17 +4,18 @@ ghost use Rattle.cyclic.specs.Fewest.{fewest};
 ghost use Rattle.cyclic.specs.Ones.{ones};
 ghost use Rattle.engine.specs.Marks.{marked};
 
+use crate::marks::MARKS;
 use crate::round::Round;
 use std::array;
 
 /// The places of a table from 0 to two rounds of marks.
-const SUMS: usize = 481;
+const SUMS: usize = 2 * MARKS + 1;
 
 /// The places of a table from 0 to a round of marks.
-pub(crate) const ROUND: usize = 241;
+pub(crate) const ROUND: usize = MARKS + 1;
 
 /// A round of marks, and for each k up to two rounds of the longest how many of the first k are true.
-#[derive(Clone, Copy)]
+#[derive(Debug, Clone, Copy, PartialEq, Eq)]
 pub(crate) struct Sums {
     round: Round,
     table: [u32; SUMS],

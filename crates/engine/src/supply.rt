@@ -4,7 +4,7 @@ ghost use Rattle.engine.specs.Supply.{Lawful, NoneServed};
 
 use crate::roster::Roster;
 
-/// The most ticks that a question is asked about: twice a belt cycle.
+/// The most ticks that a question is asked about: twice a belt cycle. It stands here too, since this crate does not know `theory`.
 pub const FARTHEST: u32 = 28_800;
 
 /// A platform that serves: each engine at least so many ticks in every so many in a row.
@@ -33,5 +33,6 @@ pub trait Supply: Roster {
     fn quota(&self, engine: usize) -> u32
         ensures { result ≡ quota self.now engine };
 
+    /// An engine that does not exist serves nothing.
     ghost missing: { (platform : Self) (engine : ℕ) → length (Self.Roster.tags platform) ≤ engine → NoneServed (supply platform engine) (cycle platform engine) (quota platform engine) };
 }

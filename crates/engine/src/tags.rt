@@ -5,7 +5,7 @@ ghost use Rattle.few.specs.Few.{items};
 use crate::roster::ENGINES;
 use few::few::Few;
 
-/// The highest tag.
+/// The highest tag. It stands here too, since this crate does not know `task`.
 const HIGHEST: u32 = 7;
 
 /// The tags of 1 to 16 engines, in their order.
