@@ -1,11 +1,13 @@
 -- The orders by load are total, and how candidates are compared.
 use Rattle.std.proofs.Common.{◌≡◌, ℕ, Bool, true, false, cond, ◌&&◌, ◌||◌, eqb, ltb, Less, Equal, Greater, List, [], ◌∷◌, map, get_or, sym, refl, ap, ◌∙◌, arith}
+use Rattle.std.proofs.lemmas.Bool.{true≢false, false≢true}
 use Rattle.std.proofs.lemmas.Option.{slice_get-map}
-use Rattle.std.specs.Cmp.{IsStrictWeakOrder}
+use Rattle.std.specs.declared.cmp.Ordering.{Ordering}
+use Rattle.std.specs.Cmp.{IsStrictWeakOrder, IsTotalOrder}
 use Rattle.std.specs.List.{slice_get}
 use Rattle.std.specs.List.Sorted.{IsPermutation, IsSortedBy}
 use Rattle.std.specs.Option.{option_map}
-use Rattle.std.specs.Ordering.{is_lt, nat_cmp, ordering_then}
+use Rattle.std.specs.Ordering.{is_lt, nat_cmp, ordering_reverse, ordering_then}
 use Rattle.order.specs.declared.fullest.Candidate.{Candidate}
 use Rattle.order.specs.Fullest.{is_before, before, candidate}
 use Rattle.order.specs.Sorting.{put, sorted}
@@ -40,6 +42,33 @@ ahead_strict = record {
   one_way = λ x y. one_way_by x.load.0 y.load.0 x.engine y.engine;
   chain = λ x y z. chain_by x.load.0 y.load.0 z.load.0 x.engine y.engine z.engine;
   level = λ x y is so. (λ i. record { load = record { 0 = same_load x.load.0 y.load.0 x.engine y.engine is so i }; engine = same_number x.load.0 y.load.0 x.engine y.engine is so i });
+}
+
+abbrev pub ranking : Candidate → Candidate → Ordering
+ranking c d = cond (ahead c d) Less (cond (ahead d c) Greater Equal)
+
+flip_by : (p q : Bool) → (p ≡ true → q ≡ false) → cond p Less (cond q Greater Equal) ≡ ordering_reverse (cond q Less (cond p Greater Equal))
+flip_by true true one_way = absurd (true≢false (one_way refl))
+flip_by true false one_way = refl
+flip_by false true one_way = refl
+flip_by false false one_way = refl
+
+less_ahead : (p q : Bool) → cond p Less (cond q Greater Equal) ≡ Less → p ≡ true
+less_ahead true q is = refl
+less_ahead false true is = absurd (false≢true (ap is_lt is))
+less_ahead false false is = absurd (false≢true (ap is_lt is))
+
+equal_not : (p q : Bool) → cond p Less (cond q Greater Equal) ≡ Equal → (p ≡ false) × (q ≡ false)
+equal_not true q is = absurd (true≢false (ap is_lt is))
+equal_not false true is = let z : ◌≡◌ {A = ℕ} 0 1 = cc in absurd (omega arith)
+equal_not false false is = (refl, refl)
+
+-- as a comparison it is a total order
+pub by_rank : IsTotalOrder (λ (x y : Candidate). ranking x y)
+by_rank = record {
+  antisymm = λ x y. flip_by (ahead x y) (ahead y x) (ahead_strict.one_way x y);
+  trans = λ x y z p q. ap (λ b. cond b Less (cond (ahead z x) Greater Equal)) (ahead_strict.chain x y z (less_ahead (ahead x y) (ahead y x) p) (less_ahead (ahead y z) (ahead z y) q));
+  congr = λ x y z p. let neither = equal_not (ahead x y) (ahead y x) p in ap (λ w. ranking w z) (ahead_strict.level x y neither.0 neither.1);
 }
 
 falls_by : (m n k a b c : ℕ) → is_before m n a b ≡ false → is_before n k b c ≡ false → is_before m k a c ≡ false

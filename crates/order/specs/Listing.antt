@@ -1,11 +1,11 @@
 -- Lists of the engines of a tag.
---   engines_of tags tag       the engines of the tag by rising number
---   times e list              how often e stands in the list
---   EachOnce tags tag list    the list has every engine of the tag once, and nothing else
+--   engines_from e tags tag    those of the engines from e on, whose tags are the list
+--   engines_of tags tag        the engines of the tag by rising number
+--   times e list               how often e stands in the list
+--   EachOnce tags tag list     the list has every engine of the tag once, and nothing else
 use Rattle.std.specs.Prelude.{◌≡◌, ℕ, suc, ◌+◌, cond, List, [], ◌∷◌, Some, ◌==◌, ◌≢◌}
 use Rattle.engine.specs.Roster.{tag_of}
 
--- those of the engines from e on, whose tags are the list
 abbrev pub engines_from : ℕ → List ℕ → ℕ → List ℕ
 engines_from e [] tag = []
 engines_from e (t ∷ ts) tag = cond (t == tag) (e ∷ engines_from (suc e) ts tag) (engines_from (suc e) ts tag)

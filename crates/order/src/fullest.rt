@@ -17,7 +17,7 @@ use std::cmp::Reverse;
 pub struct Fullest;
 
 /// An engine that may be tried, with its load. The less comes first.
-#[derive(Clone, Copy, PartialEq, Eq, PartialOrd, Ord)]
+#[derive(Debug, Clone, Copy, PartialEq, Eq, PartialOrd, Ord)]
 struct Candidate {
     load: Reverse<u32>,
     engine: usize,
@@ -34,9 +34,7 @@ fn candidates<R: Roster>(roster: &R, tag: u32, loads: &[u32; ENGINES]) -> Few<Ca
     });
     for &engine in engines.as_slice() {
         let load = Reverse(loads[engine]);
-        let Ok(()) = candidates.push(Candidate { load, engine }) else {
-            unreachable();
-        };
+        candidates.push(Candidate { load, engine }).unwrap();
     }
     candidates
 }

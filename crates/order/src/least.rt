@@ -9,6 +9,7 @@ pub fn least<T: Ord>(items: &[T]) -> Option<usize>
     if items.is_empty() {
         return None;
     }
+    // The contract of `min_by` tells the comparisons one by one, and not that its item is the first least.
     let mut best = 0;
     for (i, item) in items.iter().enumerate() {
         if item.cmp(&items[best]).is_lt() {

@@ -14,9 +14,7 @@ pub(crate) fn tagged<R: Roster>(roster: &R, tag: u32) -> Few<usize, ENGINES>
     let mut engines = Few::new(0);
     for engine in 0..roster.engines() {
         if roster.tag(engine) == Some(tag) {
-            let Ok(()) = engines.push(engine) else {
-                unreachable();
-            };
+            engines.push(engine).unwrap();
         }
     }
     engines

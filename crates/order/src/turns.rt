@@ -54,6 +54,7 @@ impl EngineOrder for Rota {
         ensures others { (other : ℕ) → (other ≢ tag) → remembered self.new other ≡ remembered self.old other }
         ensures above { 7 < tag → self.new ≡ self.old }
     {
+        // The contract of `get_mut` keeps the length alone: the written item would not be known.
         let tag = tag as usize;
         if tag < TAGS {
             self.last[tag] = Some(engine);

@@ -5,7 +5,7 @@ use Rattle.std.proofs.lemmas.Bool.{true≢false}
 use Rattle.engine.specs.Roster.{tag_of}
 use Rattle.order.proofs.Tagging.{Gathers, gathers_more, gathers_other, told_same}
 use Rattle.order.proofs.tagged.tagged.Goals as goal
-use Rattle.order.proofs.tagged.tagged.Goals.{then-eq+in-Ok, else-eq}
+use Rattle.order.proofs.tagged.tagged.Goals.{then-eq, else-eq}
 
 pub loop-engine-preserved : goal.loop-engine-preserved
 loop-engine-preserved g c =
@@ -17,9 +17,9 @@ loop-engine-preserved g c =
     let inv = c.loop-engine.invariant in
     let within : i < length tags = omega (arith, c.engines-engine-end.ensures) in
     elim c.if-eq.branch [
-      | then-eq+in-Ok w ↦
+      | then-eq w ↦
           let there : tag_of tags i ≡ Some tag = search rules in
-          let put : items c.if-eq.engines ≡ was ++ i ∷ [] = ap items w.engines-is ∙ w.in-Ok.ensures.put in
+          let put : items c.if-eq.engines ≡ was ++ i ∷ [] = search rules in
           record {
             count = omega (arith, ap length put, length-append was (i ∷ []), inv.count);
             below = subst (All (λ (e : ℕ). e < 16)) (sym put) (All-push (λ (e : ℕ). e < 16) was i inv.below (omega (arith, few)));
