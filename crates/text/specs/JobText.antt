@@ -1,8 +1,9 @@
 -- What a job text says.
 --   Written                 a number, a period, a deadline and nodes
---   header_slots n t d k    the lines before the nodes: job, period, deadline, and how many nodes there are
+--   header_slots h          the lines before the nodes: job, period, deadline, and how many nodes there are
 --   node_slots v n          the lines of the node v: its kind, the tag and ticks of a sub-task, and the lower nodes that it comes after
 --   nodes_slots v ns        the lines of nodes from v on
+--   header w                the numbers of w, and how many nodes it has
 --   slots w                 the lines of a job text
 --   written j               what the text of the job j says
 --   NodeFits v n            the numbers of the node v lie in their ranges, and it comes after lower nodes
@@ -10,6 +11,8 @@
 --   Forked ns f             the first fork at fault, or that there are too many forks
 --   Reads text j            the text is that of the job j
 --   Unread text             the text is that of no job
+--   WrongLine text f        the text is that of no job, and not just the lines of some w: f names the line where it halts
+--   WrongForks text f       the text is that of no job, but just the lines of some w: f names what is wrong with the forks of w
 --   Refused text f          the text is that of no job, and f says why
 use Rattle.std.specs.Prelude.{◌≡◌, ℕ, suc, ◌<◌, true, false, List, [], ◌∷◌, ◌++◌, length, decimal}
 use Rattle.task.specs.declared.job.Job.{Job}

@@ -5,6 +5,7 @@
 --   slots ss               the lines of a platform text: how many engines there are, and theirs
 --   said e, all_said p     what the engine e and the platform p say
 --   Reads text p           the text is that of the platform p
+--   WrongLine text f       the text is that of no platform, and not just the lines of some engines: f names the line where it halts
 --   Refused text f         the text is that of no platform, and f says why
 use Rattle.std.specs.Prelude.{ℕ, Bool, List, [], ◌∷◌, ◌++◌, map, length, decimal}
 use Rattle.few.specs.Few.{items}

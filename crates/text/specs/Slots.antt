@@ -1,9 +1,12 @@
 -- Lines that are due, one after the other.
 --   Slot                     a due line: its key and the value that is written
+--   slot k bs                the due line of the key k with the value bs
 --   text_of ss               the written lines, each its key, its value and byte 10
 --   number_fits k n          n lies in the range of the key k
 --   MarksFit ms              at most 240 marks, a divisor of 14,400, with a one
---   Ranged k bs              the value bs is well formed and in range
+--   RangedAs s k bs          the value bs is well formed by the sort s, and in the range of the key k
+--   Ranged k bs              the same, by the sort of k
+--   InRange s                so it is of the value of the due line s
 --   Taken k bs value more    bs begins with a line of the key k with this value; more stands after it
 --   Took ss bs n cs m        bs begins with the lines ss, all in range; cs stands after them; line n was the last before, m is the last of them
 --   Fails k bs n f           bs does not begin with a line of the key k that is in range, and f says why, at line n

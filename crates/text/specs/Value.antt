@@ -6,7 +6,8 @@
 --   Rising k ns         the numbers rise, from k on
 --   Listed P bs         bs is rising numbers, all of which P holds, with commas between, or a dash for none
 --   end_of ns           one more than the last of ns, 0 for none
---   places us           the places of us that are true, rising
+--   places_from k us    the places of us that are true, rising, where the first place is k
+--   places us           the same, where the first place is 0
 --   Gathers l bs        bs lists rising numbers: l has the places of those below 24, and the end of all
 --   word k              the name of the kind k
 --   mark_bytes ms       a one for each place of ms that is true, a zero for each other

@@ -26,8 +26,8 @@ fn make_calendar(engines: &[Engine]) -> Calendar
         tags.push(engine.tag).unwrap();
         marks.push(engine.marks).unwrap();
     }
-    let roll = Tags::new(&tags).unwrap();
-    Calendar::new(roll, &marks).unwrap()
+    let engine_tags = Tags::new(&tags).unwrap();
+    Calendar::new(engine_tags, &marks).unwrap()
 }
 
 /// The calendar that a platform text describes.

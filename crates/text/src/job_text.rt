@@ -17,7 +17,7 @@ use task::node::{BLANK, NODES, Node};
 use task::sound::Flaw;
 
 /// What a job text says before its nodes.
-#[derive(Clone, Copy)]
+#[derive(Debug, Clone, Copy, PartialEq, Eq)]
 struct Header {
     number: u32,
     period: u32,
@@ -86,7 +86,8 @@ fn make_job(header: Header, nodes: &[Node]) -> Result<Job, Fault>
 {
     Job::new(header.number, header.period, header.deadline, nodes).map_err(|flaw| match flaw {
         Flaw::Fork(v) => Fault::Fork { node: v as u32 },
-        _ => Fault::Forks,
+        // A flaw of range does not come: the lines were in range.
+        Flaw::Forks | Flaw::Range => Fault::Forks,
     })
 }
 

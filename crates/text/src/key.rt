@@ -3,7 +3,7 @@ ghost use Rattle.std.specs.Prelude.{◌≡◌, ℕ, List, ◌++◌, MatchOption,
 ghost use Rattle.text.specs.Key.{key_bytes, sort_of};
 
 /// The key of a line.
-#[derive(Clone, Copy)]
+#[derive(Debug, Clone, Copy, PartialEq, Eq)]
 pub enum Key {
     Job,
     Period,
@@ -20,7 +20,8 @@ pub enum Key {
 }
 
 /// What the value of a line is to be.
-#[derive(Clone, Copy)]
+// A sort and no closure, since form and meaning of a value are defined by it.
+#[derive(Debug, Clone, Copy, PartialEq, Eq)]
 pub enum Sort {
     /// A number of at most nine digits.
     Number,
@@ -41,7 +42,13 @@ impl Key {
             Key::Kind => Sort::Kind,
             Key::After { .. } => Sort::List,
             Key::Marks => Sort::Marks,
-            _ => Sort::Number,
+            Key::Job
+            | Key::Period
+            | Key::Deadline { .. }
+            | Key::Nodes
+            | Key::Tag
+            | Key::Ticks
+            | Key::Engines => Sort::Number,
         }
     }
 

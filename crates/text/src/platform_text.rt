@@ -12,14 +12,14 @@ use engine::roster::ENGINES;
 use few::few::Few;
 
 /// An engine's tag and its marks.
-#[derive(Clone, Copy)]
+#[derive(Debug, Clone, Copy, PartialEq, Eq)]
 pub struct Engine {
     pub tag: u32,
     pub marks: Marks,
 }
 
 /// The engines of a platform.
-#[derive(Clone, Copy)]
+#[derive(Debug, Clone, Copy, PartialEq, Eq)]
 pub struct Platform {
     pub engines: Few<Engine, ENGINES>,
 }

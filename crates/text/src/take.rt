@@ -9,10 +9,11 @@ ghost use Rattle.text.specs.declared.key.Sort.{Sort};
 
 use crate::fault::Fault;
 use crate::key::Key;
-use crate::lines::Lines;
-use crate::split::cut;
+use crate::lines::{Lines, TEXT_BYTES};
+use crate::split::split_once;
 use crate::value::{Kind, Line, Value};
 use engine::marks::Marks;
+use engine::roster::ENGINES;
 use few::few::Few;
 use task::node::After;
 use task::ranges::Field;
@@ -33,7 +34,7 @@ impl Key {
             Key::Nodes => Field::Count(number).is_fit(),
             Key::Tag => Field::Tag(number).is_fit(),
             Key::Ticks => Field::Work(number).is_fit(),
-            Key::Engines => (1..=16).contains(&number),
+            Key::Engines => (1..=ENGINES as u32).contains(&number),
             Key::Kind | Key::After { .. } | Key::Marks => false,
         }
     }
@@ -49,7 +50,7 @@ fn marks_of(bytes: &[u8]) -> Option<Marks>
         served.push(*byte == b'1').ok()?;
     }
     let marks = Marks { served };
-    if marks.is_fit() { Some(marks) } else { None }
+    marks.is_fit().then_some(marks)
 }
 
 impl<'a> Lines<'a> {
@@ -57,7 +58,7 @@ impl<'a> Lines<'a> {
     pub(crate) fn of(text: &'a [u8]) -> Result<Lines<'a>, Fault>
         ensures { MatchResult result (Starts text.now) (λ f. Missized text.now × (f ≡ Fault.Size)) }
     {
-        if text.is_empty() || text.len() > 4096 {
+        if text.is_empty() || text.len() > TEXT_BYTES {
             return Err(Fault::Size);
         }
         Ok(Lines {
@@ -71,7 +72,7 @@ impl<'a> Lines<'a> {
         ensures { MatchResult result (λ line. Due key self.old line self.new) (Misses key self.old) }
     {
         let line = self.number + 1;
-        let (front, rest) = cut(self.rest, b'\n').ok_or(Fault::Line { line })?;
+        let (front, rest) = split_once(self.rest, b'\n').ok_or(Fault::Line { line })?;
         let bytes = key.value_of(front).ok_or(Fault::Line { line })?;
         let value = key.sort().read(bytes).ok_or(Fault::Form { line })?;
         self.rest = rest;
@@ -88,9 +89,10 @@ impl<'a> Lines<'a> {
         ensures { MatchResult result (λ n. Takes (slot key (decimal n) ∷ []) self.old self.new × (number_fits key n ≡ true)) (Misses key self.old) }
     {
         let line = self.due(key)?;
+        let fault = Fault::Range { line: line.number };
         match line.value {
             Value::Number(n) if key.fits(n) => Ok(n),
-            _ => Err(Fault::Range { line: line.number }),
+            Value::Number(_) | Value::Kind(_) | Value::List(_) | Value::Marks(_) => Err(fault),
         }
     }
 
@@ -99,9 +101,10 @@ impl<'a> Lines<'a> {
         ensures { MatchResult result (λ k. Takes (slot Key.Kind (word k) ∷ []) self.old self.new) (Misses Key.Kind self.old) }
     {
         let line = self.due(Key::Kind)?;
+        let fault = Fault::Form { line: line.number };
         match line.value {
             Value::Kind(kind) => Ok(kind),
-            _ => Err(Fault::Form { line: line.number }),
+            Value::Number(_) | Value::List(_) | Value::Marks(_) => Err(fault),
         }
     }
 
@@ -111,9 +114,10 @@ impl<'a> Lines<'a> {
         ensures { MatchResult result (λ us. Takes (slot (Key.After node) (listed (places us)) ∷ []) self.old self.new × Lower node us) (Misses (Key.After node) self.old) }
     {
         let line = self.due(Key::After { node })?;
+        let fault = Fault::Range { line: line.number };
         match line.value {
             Value::List(numbers) if numbers.end as usize <= node => Ok(numbers.places),
-            _ => Err(Fault::Range { line: line.number }),
+            Value::Number(_) | Value::Kind(_) | Value::List(_) | Value::Marks(_) => Err(fault),
         }
     }
 
@@ -125,7 +129,7 @@ impl<'a> Lines<'a> {
         let fault = Fault::Range { line: line.number };
         match line.value {
             Value::Marks(bytes) => marks_of(bytes).ok_or(fault),
-            _ => Err(fault),
+            Value::Number(_) | Value::Kind(_) | Value::List(_) => Err(fault),
         }
     }
 

@@ -8,7 +8,7 @@ use crate::key::Sort;
 use task::node::{After, NODES};
 
 /// The value of a line.
-#[derive(Clone, Copy)]
+#[derive(Debug, Clone, Copy, PartialEq, Eq)]
 pub enum Value<'a> {
     Number(u32),
     Kind(Kind),
@@ -18,22 +18,22 @@ pub enum Value<'a> {
 }
 
 /// The value of a line, with the line's number from 1.
-#[derive(Clone, Copy)]
+#[derive(Debug, Clone, Copy, PartialEq, Eq)]
 pub struct Line<'a> {
     pub number: u32,
     pub value: Value<'a>,
 }
 
 /// What a node is.
-#[derive(Clone, Copy)]
+#[derive(Debug, Clone, Copy, PartialEq, Eq)]
 pub enum Kind {
     SubTask,
     Alternative,
     Conditional,
 }
 
-/// Rising numbers, or none: place u is true where u is one of them, and `end` is one more than the last.
-#[derive(Clone, Copy)]
+/// Rising numbers, or none: `places` has a truth value for each number below 24, true where it is one of them, and `end` is one more than the last number, 0 for none.
+#[derive(Debug, Clone, Copy, PartialEq, Eq)]
 pub struct Numbers {
     pub places: After,
     pub end: u32,
@@ -45,6 +45,7 @@ impl Numbers {
         requires { number < 1000000000 }
         ensures { self.new ≡ record { places = slice_set self.old.places number true; end = number + 1 } }
     {
+        // Not `get_mut`, whose contract says nothing of the places after the write.
         if number < NODES as u32 {
             self.places[number as usize] = true;
         }
@@ -63,6 +64,7 @@ fn is_short(bytes: &[u8]) -> bool
 }
 
 /// The number that the bytes write: one to nine digits, with no zero in front but in 0 itself.
+// Not `parse`, which takes a plus sign.
 fn number(bytes: &[u8]) -> Option<u32>
     ensures { MatchOption result ((n : ℕ) → Numeral n bytes.now → ⊥) (λ n. Numeral n bytes.now) }
 {

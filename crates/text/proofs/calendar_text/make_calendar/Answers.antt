@@ -22,9 +22,9 @@ unwrap-requires-2 c =
     let es = c.args.engines.now in
     let all = take_all c.loop-engine.engine-index es c.loop-engine-test.false in
     let marks : c.deref-2.result.now ≡ map (λ (e : Engine). e.marks) es = c.deref-2.ensures.0 ∙ (c.loop-engine.invariant.1 ∙ ap (map (λ (e : Engine). e.marks)) all) in
-    let roll : tag_list c.unwrap-roll.result ≡ c.deref.result.now = search rules in
-    let tags : tag_list c.unwrap-roll.result ≡ map (λ (e : Engine). e.tag) es = roll ∙ (c.deref.ensures.0 ∙ (c.loop-engine.invariant.0 ∙ ap (map (λ (e : Engine). e.tag)) all)) in
-    let match : Matching (tag_list c.unwrap-roll.result) c.deref-2.result.now = record {
+    let kept : tag_list c.unwrap-engine_tags.result ≡ c.deref.result.now = search rules in
+    let tags : tag_list c.unwrap-engine_tags.result ≡ map (λ (e : Engine). e.tag) es = kept ∙ (c.deref.ensures.0 ∙ (c.loop-engine.invariant.0 ∙ ap (map (λ (e : Engine). e.tag)) all)) in
+    let match : Matching (tag_list c.unwrap-engine_tags.result) c.deref-2.result.now = record {
       many = ap length marks ∙ (length-map es (λ (e : Engine). e.marks) ∙ (sym (length-map es (λ (e : Engine). e.tag)) ∙ ap length (sym tags)));
       fit = subst (All Fit) (sym marks) c.requires.2;
     } in
@@ -35,9 +35,9 @@ returns c =
     let es = c.args.engines.now in
     let all = take_all c.loop-engine.engine-index es c.loop-engine-test.false in
     let marks : c.deref-2.result.now ≡ map (λ (e : Engine). e.marks) es = c.deref-2.ensures.0 ∙ (c.loop-engine.invariant.1 ∙ ap (map (λ (e : Engine). e.marks)) all) in
-    let roll : tag_list c.unwrap-roll.result ≡ c.deref.result.now = search rules in
-    let tags : tag_list c.unwrap-roll.result ≡ map (λ (e : Engine). e.tag) es = roll ∙ (c.deref.ensures.0 ∙ (c.loop-engine.invariant.0 ∙ ap (map (λ (e : Engine). e.tag)) all)) in
-    let same : c.unwrap-2.result.tags ≡ c.unwrap-roll.result = search rules in
+    let kept : tag_list c.unwrap-engine_tags.result ≡ c.deref.result.now = search rules in
+    let tags : tag_list c.unwrap-engine_tags.result ≡ map (λ (e : Engine). e.tag) es = kept ∙ (c.deref.ensures.0 ∙ (c.loop-engine.invariant.0 ∙ ap (map (λ (e : Engine). e.tag)) all)) in
+    let same : c.unwrap-2.result.tags ≡ c.unwrap-engine_tags.result = search rules in
     let courses : calendar (items c.unwrap-2.result.courses) ≡ map marked c.deref-2.result.now = search rules in
     record {
       tags = ap tag_list same ∙ tags;

@@ -14,8 +14,8 @@ returns-in-List c =
     let low = gathers_lower c.args.node c.in-List.numbers due.bytes c.requires c.if-numbers-node.true is.1 in
     (due_took (After c.args.node) _ _ _ _ due low.0 (listed_places c.args.node c.in-List.numbers.places c.requires low.1), low.1)
 
-pub returns-in_default : goal.returns-in_default
-returns-in_default c =
+pub returns-in-Number : goal.returns-in-Number
+returns-in-Number c =
     let due = c.in_ok-line.ensures in
     let is = subst (Means sorts.TheVariants.List due.bytes) c.in-List.is due.means in
     due_missed (After c.args.node) _ _ _ due is.1.form (gathers_far c.args.node c.in-List.numbers due.bytes c.if-numbers-node.false is.1)

@@ -1,6 +1,6 @@
 use Rattle.std.proofs.Common.{rules, ◌≡◌, ℕ, ◌<◌, ◌≢◌, length, get_or}
 use Rattle.text.proofs.Cuts.{cut_at}
-use Rattle.text.proofs.split.cut.Goals as goal
+use Rattle.text.proofs.split.split_once.Goals as goal
 
 pub returns : goal.returns
 returns c =
