@@ -1,22 +1,18 @@
 -- What the seating program prints of a job text.
 --   lines_below f n      the lines f gives for the numbers below n, one after the other
---   line_at l v n        the line of the node n with the number v, if it is a sub-task among the members
---   line_text o          the bytes of that line, or none
---   line_of l v          those of the node with the number v
+--   line_of l v          the line of the node with the number v, if it is a sub-task among the members
 --   laid_out l           the lines of a job that is laid out: its title, and a line for each sub-task among the members
 --   Refuses text r       the text is refused for r: that of no job, by its first fault, or that of a job without a possible choice
 --   LaysOut text l       the text is that of the job of l, whose choice is the first possible one, and whose windows follow the proportional rule
 --   Answers text bs      bs is the answer to the text: its refusal, or the job laid out
-use Rattle.std.specs.Prelude.{◌≡◌, ℕ, zero, suc, ◌<◌, false, cond, ◌&&◌, ◌⊎◌, List, [], ◌++◌, length, slice_index_or, Option, Some, None}
+use Rattle.std.specs.Prelude.{◌≡◌, ℕ, zero, suc, ◌<◌, false, cond, ◌&&◌, ◌⊎◌, List, [], ◌++◌, length, slice_index_or}
 use Rattle.listing.specs.Lines.{title, node_line}
 use Rattle.listing.specs.Refusal.{refusal_text}
 use Rattle.listing.specs.declared.laid_out.LaidOut.{LaidOut}
-use Rattle.listing.specs.declared.lines.NodeLine.{NodeLine}
 use Rattle.listing.specs.declared.refusal.Refusal.{Refusal}
 use Rattle.listing.specs.declared.refusal.Refusal.TheVariants.{Long, NoChoice, Fault}
 use Rattle.slack.specs.Proportional.{proportional}
 use Rattle.task.specs.declared.job.Job.{Job}
-use Rattle.task.specs.declared.node.Node.{Node}
 use Rattle.task.specs.declared.node.Numbering.TheVariants.{Choice}
 use Rattle.task.specs.Concrete.{Member}
 use Rattle.task.specs.Flaws.{graph}
@@ -34,15 +30,8 @@ abbrev pub lines_below : (ℕ → List ℕ) → ℕ → List ℕ
 lines_below f zero = []
 lines_below f (suc n) = lines_below f n ++ f n
 
-abbrev pub line_at : LaidOut → ℕ → Node → Option NodeLine
-line_at l v n = cond (slice_index_or l.members v false && is_sub_task n) (Some (record { node = v; offset = offset_of l.windows v; deadline = deadline_of l.windows v })) None
-
-abbrev pub line_text : Option NodeLine → List ℕ
-line_text (Some l) = node_line l.node l.offset l.deadline
-line_text None = []
-
 abbrev pub line_of : LaidOut → ℕ → List ℕ
-line_of l v = line_text (line_at l v (at (graph l.job) v))
+line_of l v = cond (slice_index_or l.members v false && is_sub_task (at (graph l.job) v)) (node_line v (offset_of l.windows v) (deadline_of l.windows v)) []
 
 abbrev pub laid_out : LaidOut → List ℕ
 laid_out l = title l.job.number l.choice ++ lines_below (line_of l) (length (graph l.job))

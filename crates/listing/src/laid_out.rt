@@ -1,6 +1,8 @@
 //! A job under its first possible choice.
-ghost use Rattle.std.specs.Prelude.{◌≡◌, ◌<◌, Some, MatchResult};
-ghost use Rattle.listing.specs.Answer.{LaysOut, Refuses, laid_out, line_at};
+ghost use Rattle.std.specs.Prelude.{◌≡◌, ◌<◌, ◌&&◌, false, if◌then◌else◌, slice_index_or, Some, None, MatchResult};
+ghost use Rattle.listing.specs.Answer.{LaysOut, Refuses, laid_out};
+ghost use Rattle.task.specs.Node.{is_sub_task};
+ghost use Rattle.window.specs.Windows.{closed};
 
 use crate::lines::{NodeLine, Title};
 use crate::refusal::Refusal;
@@ -13,7 +15,7 @@ use window::layout::{Layout, Window};
 use window::possible::first_possible;
 
 /// A job under its first possible choice: the nodes of the concrete graph, and their windows.
-#[derive(Clone, Copy)]
+#[derive(Debug, Clone, Copy, PartialEq, Eq)]
 pub(crate) struct LaidOut {
     job: Job,
     choice: u32,
@@ -41,13 +43,12 @@ impl LaidOut {
     /// The line of a node, if it is a sub-task of the concrete graph.
     fn line(&self, v: usize, node: &Node) -> Option<NodeLine>
         requires { v < 24 }
-        ensures { result ≡ line_at self.now v node.now }
+        ensures { result ≡ (if slice_index_or self.now.members v false && is_sub_task node.now then Some (record { node = v; window = slice_index_or self.now.windows v closed }) else None) }
     {
         match node {
             Node::SubTask { .. } if self.members[v] => Some(NodeLine {
                 node: v,
-                offset: self.windows[v].offset,
-                deadline: self.windows[v].deadline,
+                window: self.windows[v],
             }),
             _ => None,
         }

@@ -3,7 +3,7 @@ ghost use Rattle.std.specs.Prelude.{Some};
 ghost use Rattle.listing.specs.Lines.{node_line, title};
 
 use std::fmt;
-use task::node::Ticks;
+use window::layout::Window;
 
 /// The first lines of a job.
 #[derive(Debug, Clone, Copy, PartialEq, Eq)]
@@ -24,14 +24,14 @@ impl fmt::Display for Title {
 #[derive(Debug, Clone, Copy, PartialEq, Eq)]
 pub(crate) struct NodeLine {
     pub(crate) node: usize,
-    pub(crate) offset: Ticks,
-    pub(crate) deadline: Ticks,
+    pub(crate) window: Window,
 }
 
 impl fmt::Display for NodeLine {
-    ghost output = { λ l. Some (node_line l.node l.offset l.deadline) };
+    ghost output = { λ l. Some (node_line l.node l.window.offset l.window.deadline) };
 
     fn fmt<W: fmt::Write>(&self, f: &mut fmt::Formatter<W>) -> fmt::Result {
-        writeln!(f, "node={},{},{}", self.node, self.offset, self.deadline)
+        let Window { offset, deadline } = self.window;
+        writeln!(f, "node={},{offset},{deadline}", self.node)
     }
 }

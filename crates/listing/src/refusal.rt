@@ -3,11 +3,12 @@ ghost use Rattle.std.specs.Prelude.{◌≡◌, Some};
 ghost use Rattle.listing.specs.Refusal.{refusal_number, refusal_place, refusal_text};
 ghost use Rattle.listing.specs.declared.refusal.Refusal.TheVariants.{Fault as FaultyText};
 
+use std::error::Error;
 use std::fmt;
 use text::fault::Fault;
 
 /// Why there is nothing to lay out.
-#[derive(Clone, Copy)]
+#[derive(Debug, Clone, Copy, PartialEq, Eq)]
 pub enum Refusal {
     /// The input is longer than what is read.
     Long,
@@ -55,3 +56,5 @@ impl fmt::Display for Refusal {
         writeln!(f, "answer={},{}", self.number(), self.place())
     }
 }
+
+impl Error for Refusal {}
