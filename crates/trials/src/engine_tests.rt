@@ -5,6 +5,7 @@ use engine::supply::Supply;
 use order::fullest::Fullest;
 use order::order::EngineOrder;
 use order::rota::Rota;
+use std::array;
 use std::test::Fail;
 use text::calendar_text::read_calendar;
 
@@ -16,14 +17,8 @@ const MARKS: [&[u8]; 5] = [b"10", b"1100", b"100100", b"1", b"0110100100"];
 const LONG: &[u8] =
     b"110100100011110000101011100010101111000011100101100110001111000010101110001010111100001110010110011000111100001010111000101011110000111001011001100011110000101011100010101111000011100101100110001111000010101110001010111100001110010110011001";
 
-fn calendar(text: &[u8]) -> Result<Calendar, Fail> {
-    match read_calendar(text) {
-        Ok(calendar) => Ok(calendar),
-        Err(_) => Err(Fail::new("refused")),
-    }
-}
-
 // The ones among n marks from a start, round and round.
+// Counted by hand, to be apart from the code.
 fn ones(marks: &[u8], start: usize, n: usize) -> u32 {
     let mut count: u32 = 0;
     let mut at = start;
@@ -41,16 +36,15 @@ fn ones(marks: &[u8], start: usize, n: usize) -> u32 {
 
 // The fewest ones among n marks in a row, from any start.
 fn fewest(marks: &[u8], n: usize) -> u32 {
-    let mut least = u32::MAX;
-    for start in 0..marks.len() {
-        least = least.min(ones(marks, start, n));
-    }
-    least
+    (0..marks.len())
+        .map(|start| ones(marks, start, n))
+        .min()
+        .unwrap_or(u32::MAX)
 }
 
 #[test]
 fn supplies_of_short_marks(rt: HostRuntime) -> Result<(), Fail> {
-    let calendar = calendar(PLATFORM)?;
+    let calendar = read_calendar(PLATFORM)?;
     for (engine, marks) in MARKS.iter().enumerate() {
         for n in 0..50 {
             assert_eq!(rt;
@@ -82,7 +76,7 @@ fn supplies_of_long_marks(rt: HostRuntime) -> Result<(), Fail> {
     text.extend_from_slice(b"engines=1\ntag=3\nmarks=")?;
     text.extend_from_slice(LONG)?;
     text.extend_from_slice(b"\n")?;
-    let calendar = calendar(text.as_slice())?;
+    let calendar = read_calendar(text.as_slice())?;
     assert_eq!(rt; calendar.cycle(0), 240);
     for n in 0..245 {
         assert_eq!(rt; calendar.supply(0, n), fewest(LONG, n as usize), "{}", n);
@@ -92,7 +86,7 @@ fn supplies_of_long_marks(rt: HostRuntime) -> Result<(), Fail> {
 
 #[test]
 fn tags_of_a_roster(rt: HostRuntime) -> Result<(), Fail> {
-    let calendar = calendar(PLATFORM)?;
+    let calendar = read_calendar(PLATFORM)?;
     assert_eq!(rt; calendar.engines(), 5);
     assert_eq!(rt; calendar.tag(3), Some(7));
     assert_eq!(rt; calendar.tag(5), None);
@@ -100,16 +94,12 @@ fn tags_of_a_roster(rt: HostRuntime) -> Result<(), Fail> {
 }
 
 fn places<O: EngineOrder>(order: &O, roster: &Calendar, loads: &[u32; 16]) -> [Option<usize>; 4] {
-    let mut found = [None; 4];
-    for k in 0..4 {
-        found[k] = order.place(roster, 0, loads, k);
-    }
-    found
+    array::from_fn(|k| order.place(roster, 0, loads, k))
 }
 
 #[test]
 fn fullest_first(rt: HostRuntime) -> Result<(), Fail> {
-    let calendar = calendar(PLATFORM)?;
+    let calendar = read_calendar(PLATFORM)?;
     let mut loads = [0; 16];
     assert_eq!(rt;
         places(&Fullest, &calendar, &loads),
@@ -127,7 +117,7 @@ fn fullest_first(rt: HostRuntime) -> Result<(), Fail> {
 
 #[test]
 fn round_the_rota(rt: HostRuntime) -> Result<(), Fail> {
-    let calendar = calendar(PLATFORM)?;
+    let calendar = read_calendar(PLATFORM)?;
     let loads = [0; 16];
     let mut rota = Rota::new();
     assert_eq!(rt;

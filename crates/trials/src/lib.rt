@@ -24,6 +24,7 @@ mod tests {
     use slack::rule::SlackRule;
     use std::process::Abort;
     use std::test::Fail;
+    use text::fault::Fault;
     use text::job_text::read_job;
     use text::platform_text::read_platform;
     use window::layout::Layout;
@@ -31,15 +32,9 @@ mod tests {
     // A text, the number of the first question that it fails, and the place; 0 and 0 for one that is read.
     pub type Case = (&'static [u8], u32, u32);
 
-    fn answer_to_job(text: &[u8]) -> (u32, u32) {
-        match read_job(text) {
-            Ok(_) => (0, 0),
-            Err(fault) => (fault.number(), fault.place()),
-        }
-    }
-
-    fn answer_to_platform(text: &[u8]) -> (u32, u32) {
-        match read_platform(text) {
+    // The number of the question that a text failed, and the place; 0 and 0 where it was read.
+    fn answer_to<T: Copy>(read: Result<T, Fault>) -> (u32, u32) {
+        match read {
             Ok(_) => (0, 0),
             Err(fault) => (fault.number(), fault.place()),
         }
@@ -48,7 +43,7 @@ mod tests {
     // What fails says its place in the table.
     fn try_jobs(rt: &impl Abort, cases: &[Case]) {
         for (i, (text, number, place)) in cases.iter().enumerate() {
-            assert_eq!(rt; answer_to_job(text), (*number, *place), "{}", i);
+            assert_eq!(rt; answer_to(read_job(text)), (*number, *place), "{}", i);
         }
     }
 
@@ -64,27 +59,27 @@ mod tests {
 
     #[test]
     fn jobs_by_size(rt: HostRuntime) {
-        assert_eq!(rt; answer_to_job(b""), (1, 0));
+        assert_eq!(rt; answer_to(read_job(b"")), (1, 0));
         // a number of 4,091 digits is not well formed
         let mut most = [b'1'; 4096];
         lay(&mut most, b"job=");
-        assert_eq!(rt; answer_to_job(&most), (3, 1));
+        assert_eq!(rt; answer_to(read_job(&most)), (3, 1));
         let mut more = [b'1'; 4097];
         lay(&mut more, b"job=");
-        assert_eq!(rt; answer_to_job(&more), (1, 0));
+        assert_eq!(rt; answer_to(read_job(&more)), (1, 0));
         // a job, and text after it up to the limit and past it
         let mut most = [b'x'; 4096];
         lay(
             &mut most,
             b"job=7\nperiod=100\ndeadline=100\nnodes=1\nkind=subtask\ntag=0\nticks=1\nafter=-\n",
         );
-        assert_eq!(rt; answer_to_job(&most), (2, 9));
+        assert_eq!(rt; answer_to(read_job(&most)), (2, 9));
         let mut more = [b'x'; 4097];
         lay(
             &mut more,
             b"job=7\nperiod=100\ndeadline=100\nnodes=1\nkind=subtask\ntag=0\nticks=1\nafter=-\n",
         );
-        assert_eq!(rt; answer_to_job(&more), (1, 0));
+        assert_eq!(rt; answer_to(read_job(&more)), (1, 0));
     }
 
     #[test]
@@ -115,7 +110,7 @@ mod tests {
     #[test]
     fn platforms_by_line(rt: HostRuntime) {
         for (i, (text, number, place)) in PLATFORMS.iter().enumerate() {
-            assert_eq!(rt; answer_to_platform(text), (*number, *place), "{}", i);
+            assert_eq!(rt; answer_to(read_platform(text)), (*number, *place), "{}", i);
         }
     }
 
@@ -124,27 +119,25 @@ mod tests {
     fn platforms_by_marks(rt: HostRuntime) {
         let mut longest = [b'1'; 263];
         lay(&mut longest, b"engines=1\ntag=0\nmarks=");
-        assert_eq!(rt; answer_to_platform(&longest), (0, 0));
+        assert_eq!(rt; answer_to(read_platform(&longest)), (0, 0));
         let mut longer = [b'1'; 264];
         lay(&mut longer, b"engines=1\ntag=0\nmarks=");
-        assert_eq!(rt; answer_to_platform(&longer), (4, 3));
+        assert_eq!(rt; answer_to(read_platform(&longer)), (4, 3));
         let mut dividing = [b'1'; 311];
         lay(&mut dividing, b"engines=1\ntag=0\nmarks=");
-        assert_eq!(rt; answer_to_platform(&dividing), (4, 3));
+        assert_eq!(rt; answer_to(read_platform(&dividing)), (4, 3));
         let mut most = [b'1'; 4096];
         lay(&mut most, b"engines=1\ntag=0\nmarks=");
-        assert_eq!(rt; answer_to_platform(&most), (4, 3));
+        assert_eq!(rt; answer_to(read_platform(&most)), (4, 3));
         let mut more = [b'1'; 4097];
         lay(&mut more, b"engines=1\ntag=0\nmarks=");
-        assert_eq!(rt; answer_to_platform(&more), (1, 0));
+        assert_eq!(rt; answer_to(read_platform(&more)), (1, 0));
     }
 
     #[test]
     fn worked_job(rt: HostRuntime) -> Result<(), Fail> {
         let [.., (text, _, _)] = JOBS;
-        let Ok(job) = read_job(text) else {
-            return Err(Fail::new("the worked job is not read"));
-        };
+        let job = read_job(text)?;
         assert_eq!(rt; job.number, 7);
         assert_eq!(rt; job.period, 1200);
         assert_eq!(rt; job.deadline, 1000);
@@ -164,17 +157,13 @@ mod tests {
     // The local deadlines of the worked graph's sub-tasks under its second choice.
     fn worked_deadlines<R: SlackRule>(rule: &R) -> Result<(u32, u32, u32), Fail> {
         let [.., (text, _, _)] = JOBS;
-        match read_job(text) {
-            Ok(job) => {
-                let windows = Layout::of(&job, 1, rule).windows;
-                Ok((
-                    windows[0].deadline,
-                    windows[3].deadline,
-                    windows[4].deadline,
-                ))
-            }
-            Err(_) => Err(Fail::new("refused")),
-        }
+        let job = read_job(text)?;
+        let windows = Layout::of(&job, 1, rule).windows;
+        Ok((
+            windows[0].deadline,
+            windows[3].deadline,
+            windows[4].deadline,
+        ))
     }
 
     #[test]
