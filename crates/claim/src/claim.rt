@@ -6,7 +6,7 @@ use few::few::Few;
 use task::node::{NODES, Ticks};
 
 /// The most cuts of a part: at the arrival, and at the offset of each sub-task.
-pub const CUTS: usize = 25;
+pub const CUTS: usize = NODES + 1;
 
 /// What one arrival can ask from a moment after it on: place j has the most that falls due by the j-th end.
 #[derive(Debug, Clone, Copy, PartialEq, Eq)]

@@ -18,6 +18,7 @@ use few::few::Few;
 #[derive(Debug, Clone, Copy, PartialEq, Eq)]
 pub struct Calendar {
     tags: Tags,
+    // Beside the tags and not one with them, since tags are a type that other platforms have too.
     courses: Few<Course, ENGINES>,
     ghost paired: { length (items courses) ≡ length (tag_list tags) },
 }

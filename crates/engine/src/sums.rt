@@ -46,6 +46,7 @@ impl Sums {
         }
     }
 
+    // A start and a length are asked for where they are used: they are no part of the sums.
     /// How many of the n marks from a start on are true.
     fn ones(&self, start: usize, n: usize) -> u32
         requires { (start ≤ length (marked self.now.round.marks)) × (n ≤ length (marked self.now.round.marks)) }

@@ -60,6 +60,7 @@ impl<T: Copy, const N: usize> Few<T, N> {
         self.as_slice().len()
     }
 
+    // A list is filled by pushing: the library's `collect` asks for an allocator.
     /// Puts an item behind the others; where there is no place left, it stays out.
     pub fn push(&mut self, item: T) -> Result<(), Full>
         ensures room { IsOk result ↔ (length (items self.old) < N) }

@@ -14,11 +14,13 @@ use text::job_text::read_job;
 use window::layout::{Layout, Window};
 use window::possible::first_possible;
 
+// As a plan has it, but no program makes plans yet.
 /// A job under its first possible choice: the nodes of the concrete graph, and their windows.
 #[derive(Debug, Clone, Copy, PartialEq, Eq)]
 pub(crate) struct LaidOut {
     job: Job,
     choice: u32,
+    // Members and windows side by side, as the concrete graph and its layout give each of them whole.
     members: [bool; NODES],
     windows: [Window; NODES],
 }
@@ -40,6 +42,7 @@ impl LaidOut {
         })
     }
 
+    // The number is asked for below 24, as wherever a table over nodes is read: a type for it would be opened at each index.
     /// The line of a node, if it is a sub-task of the concrete graph.
     fn line(&self, v: usize, node: &Node) -> Option<NodeLine>
         requires { v < 24 }

@@ -13,6 +13,7 @@ pub trait EngineOrder {
     /// Every engine of the tag has one place, and no other engine has one.
     ghost complete: { (order : Self) (tellings : List (ℕ × ℕ)) (tags : List ℕ) (tag : ℕ) (loads : List ℕ) → EachOnce tags tag (listing order tellings tags tag loads) };
 
+    // Roster, tag and loads are what is asked about; a struct of them would be made for each question.
     /// The engine at a place among the engines of the tag; nothing from their number on.
     fn place<R: Roster>(
         &self,

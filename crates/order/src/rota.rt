@@ -1,6 +1,7 @@
 //! Engines in turn, from after the one that last took a part.
 ghost use Rattle.std.specs.Prelude.{◌≡◌, length};
 
+// It stands here too, since `engine` keeps its highest tag to itself.
 /// How many tags there are.
 pub const TAGS: usize = 8;
 

@@ -18,6 +18,7 @@ pub const BRANCHES: usize = 81;
 pub struct Plan {
     pub job: Job,
     pub choice: u32,
+    // Members and windows side by side, as the concrete graph and its layout give each of them whole.
     pub members: [bool; NODES],
     pub windows: [Window; NODES],
     pub reached: Few<[bool; NODES], BRANCHES>,

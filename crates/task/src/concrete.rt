@@ -64,6 +64,7 @@ impl Job {
         )
     }
 
+    // That the kept edges rise stands in the clauses: a table of edges does not know its job.
     fn kept_by_choice(&self, choice: u32) -> Edges
         ensures same { (u v : ℕ) → leads result u v ≡ by_choice (graph self.now) choice u v }
         ensures rises { Rises (graph self.now) (leads result) }
@@ -93,6 +94,7 @@ impl Job {
         members
     }
 
+    // A job and the number of a choice, since the number is what callers run over and keep.
     /// The concrete graph of a choice.
     pub fn concrete(&self, choice: u32) -> Concrete
         ensures { IsConcrete (graph self.now) choice result }

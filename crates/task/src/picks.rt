@@ -10,6 +10,7 @@ pub(crate) struct Picks<'a> {
     pub(crate) nodes: &'a [Node],
     pub(crate) numbering: Numbering,
     pub(crate) number: u32,
+    // A place for every node, as each table over nodes has.
     pub(crate) ranks: [usize; NODES],
     ghost few: { length nodes.now ≤ 24 },
     ghost picked: { ((u : ℕ) → u < length nodes.now → slice_index ranks u ≡ pick numbering nodes.now number u) },

@@ -58,6 +58,7 @@ fn are_nodes_fit(nodes: &[Node]) -> bool
     nodes.iter().enumerate().all(|(v, node)| are_numbers_fit(node) && is_below(node.after(), v))
 }
 
+// How many there are is asked of a `usize`, before it is a field.
 fn is_header_fit(number: u32, period: Ticks, deadline: Ticks, count: usize) -> bool
     ensures { Decides result (HeaderFits number period deadline count) }
 {

@@ -42,6 +42,7 @@ impl Lines<'_> {
         })
     }
 
+    // The number is asked for below 24, as wherever a table over nodes is read: a type for it would be opened at each index.
     /// Takes the lines of the node `v`.
     fn node(&mut self, v: usize) -> Result<Node, Fault>
         requires { v < 24 }

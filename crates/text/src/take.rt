@@ -108,6 +108,7 @@ impl<'a> Lines<'a> {
         }
     }
 
+    // The number is asked for below 24, as wherever a table over nodes is read: a type for it would be opened at each index.
     /// Takes the next line, which is to list nodes below `node`.
     pub(crate) fn after(&mut self, node: usize) -> Result<After, Fault>
         requires { node < 24 }

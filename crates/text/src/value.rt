@@ -32,6 +32,7 @@ pub enum Kind {
     Conditional,
 }
 
+// 0 and no option at the end of none, so that a node is compared once.
 /// Rising numbers, or none: `places` has a truth value for each number below 24, true where it is one of them, and `end` is one more than the last number, 0 for none.
 #[derive(Debug, Clone, Copy, PartialEq, Eq)]
 pub struct Numbers {

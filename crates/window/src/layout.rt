@@ -1,6 +1,7 @@
 //! What is known of the nodes of a concrete graph.
 use task::node::{NODES, Ticks};
 
+// 0 and no option where there is no node, as for its window.
 /// The lengths of the longest paths at a node. A node outside the graph has 0.
 #[derive(Debug, Clone, Copy, PartialEq, Eq)]
 pub struct Longest {

@@ -38,6 +38,7 @@ impl Measure {
     }
 }
 
+// That edges ascend is asked for here: `Concrete` has open fields, and a fact in it would ask more of who builds one.
 /// The greatest sum of weights on a path that ends at each node.
 pub(crate) fn longest_to(edges: &Edges, weights: &[u32; NODES]) -> [u32; NODES]
     requires { (Ascends edges.now) × (Light weights.now) }
@@ -51,6 +52,7 @@ pub(crate) fn longest_to(edges: &Edges, weights: &[u32; NODES]) -> [u32; NODES]
     to
 }
 
+// The number is asked for below 24, as wherever a table over nodes is read: a type for it would be opened at each index.
 /// The nodes that an edge leads to from `v`.
 fn column(edges: &Edges, v: usize) -> [bool; NODES]
     requires { v < 24 }
@@ -74,6 +76,7 @@ fn longest_from(edges: &Edges, weights: &[u32; NODES]) -> [u32; NODES]
 }
 
 impl Lengths {
+    // A job and the number of a choice, since the number is what callers run over and keep.
     /// The lengths of the concrete graph of a choice.
     pub fn of(job: &Job, choice: u32) -> Lengths
         ensures { IsLengths (graph job.now) choice result }

@@ -16,6 +16,7 @@ use task::node::{NODES, Node, Ticks};
 use task::tables::Concrete;
 
 impl Lengths {
+    // The number is asked for below 24, as wherever a table over nodes is read: a type for it would be opened at each index.
     /// Where the node `v` stands in a job with the deadline.
     fn position(&self, deadline: Ticks, v: usize) -> Position
         requires { v < 24 }
@@ -54,7 +55,7 @@ fn windows<R: SlackRule>(
 {
     let mut opens = [0; NODES];
     let mut ends = [0; NODES];
-    // Each window rests on the ends of those before it.
+    // Each window rests on the ends of those before it, so the ends stand in a table of their own.
     for v in 0..nodes.len() {
         if concrete.members[v] {
             let offset = greatest(&concrete.edges[v], &ends);

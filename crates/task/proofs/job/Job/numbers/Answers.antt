@@ -1,5 +1,5 @@
 use Rattle.std.proofs.Common.{◌≡◌, ℕ, ◌-◌, ◌*◌, ◌<◌, ◌≤◌, length, sym, ap, ◌∙◌, mul_comm, arith, rules}
-use Rattle.task.specs.Picks.{numbers, product, ways}
+use Rattle.task.specs.Picks.{product, ways}
 use Rattle.task.proofs.Products.{product_step, product_small}
 use Rattle.task.proofs.job.Job.numbers.Goals as goal
 
@@ -11,14 +11,6 @@ pub loop-u-preserved : goal.loop-u-preserved
 loop-u-preserved c =
     let ns = c.graph-nodes.result.now in
     product_turn (ways c.args.numbering ns) (length ns) c.loop-u.u _ _ c.loop-u-test.true c.loop-u.auto.u c.loop-u.invariant c.ways-total.ensures
-
-pub returns : goal.returns
-returns c =
-    let ns = c.graph-nodes.result.now in
-    let f = ways c.args.numbering ns in
-    let e : c.loop-u.u ≡ 0 = omega arith in
-    let g : length ns - 0 ≡ length ns = omega arith in
-    c.loop-u.invariant ∙ ap (λ u. product f u (length ns - u)) e ∙ ap (λ n. product f 0 n) g ∙ ap (numbers c.args.numbering) c.graph-nodes.ensures.nodes
 
 pub overflow_mul-total : goal.overflow_mul-total
 overflow_mul-total c =

@@ -1,4 +1,4 @@
-use Rattle.std.proofs.Common.{◌≡◌, ℕ, suc, ◌-◌, ◌/◌, ◌%◌, ◌<◌, ◌≤◌, List, length, get_or, set, sym, ap, ◌∙◌, subst, inl, inr, mul_comm, arith}
+use Rattle.std.proofs.Common.{◌≡◌, ℕ, suc, ◌-◌, ◌/◌, ◌%◌, ◌<◌, ◌≤◌, List, length, get_or, set, sym, ap, ◌∙◌, inl, inr, mul_comm, arith}
 use native.Mathlib.Nat.{div-div-eq-div-mul}
 use Rattle.std.proofs.lemmas.List.{length-set, get_or-set_same, get_or-set_other}
 use Rattle.std.proofs.lemmas.Bool.{cases_eq}
@@ -36,8 +36,3 @@ loop-u-preserved c =
       places_turn (pick m ns k) c.loop-u.ranks (length ns) u _ c.loop-u-test.true (omega (arith, c.loop-u.auto.u, c.graph-nodes.ensures.sound.few, inv.0)) inv.2
           (digit_turn (ways m ns) k (length ns) u _ _ c.loop-u-test.true inv.1 c.ways-ways.ensures),
     )
-
-pub returns : goal.returns
-returns c =
-    subst (λ ns. (u : ℕ) → u < length ns → get_or c.loop-u.ranks u 0 ≡ pick c.args.numbering ns c.args.number u) c.graph-nodes.ensures.nodes
-    (λ u inside. c.loop-u.invariant.2 u (omega arith) inside)
