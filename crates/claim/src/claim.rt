@@ -1,14 +1,10 @@
 //! What a part asks of its engine.
-ghost use Rattle.std.specs.Prelude.{◌≡◌, ◌+◌, ◌≤◌, length};
-ghost use Rattle.few.specs.Few.{items};
+ghost use Rattle.std.specs.Prelude.{◌≡◌, ◌≤◌};
 
 use few::few::Few;
 use task::node::{NODES, Ticks};
 
-/// The most cuts of a part: at the arrival, and at the offset of each sub-task.
-pub const CUTS: usize = NODES + 1;
-
-/// What one arrival can ask from a moment after it on: place j has the most that falls due by the j-th end.
+/// What one arrival can ask from a moment after it on: beside each end of the claim, the most that falls due by it.
 #[derive(Debug, Clone, Copy, PartialEq, Eq)]
 pub struct Cut {
     pub from: Ticks,
@@ -16,7 +12,7 @@ pub struct Cut {
     pub most: [Ticks; NODES],
 }
 
-/// What a part asks: the ends of its sub-tasks' windows, and a cut at the arrival and then at each of their offsets.
+/// What a part asks: the ends of its sub-tasks' windows, a cut at the arrival, and one at the offset of each of them.
 #[derive(Debug, Clone, Copy, PartialEq, Eq)]
 pub struct Claim {
     pub period: Ticks,
@@ -24,8 +20,8 @@ pub struct Claim {
     /// The most that one whole arrival asks.
     pub whole: Ticks,
     pub ends: Few<Ticks, NODES>,
-    pub cuts: Few<Cut, CUTS>,
+    pub arrival: Cut,
+    pub cuts: Few<Cut, NODES>,
     ghost some: { 1 ≤ period },
-    ghost many: { length (items cuts) ≡ length (items ends) + 1 },
     ghost light: { whole ≤ 345600 },
 }

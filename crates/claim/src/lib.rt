@@ -1,4 +1,5 @@
 //! What a part asks of the engine that it sits on.
 #![tactic(auto)]
 
+pub mod asking;
 pub mod claim;

@@ -1,0 +1,23 @@
+-- What the tables of a claim give.
+--   whole_ones c y      how many whole arrivals come after the first one up to y after it
+--   given_later c y     the most that the arrivals after one ask up to y after it
+--   given_at c n k      the most in n ticks from the moment of the cut k
+--   given c n           the most in n ticks
+use Rattle.std.specs.Prelude.{ℕ, ◌+◌, ◌-◌, ◌*◌, ◌/◌, max}
+use Rattle.few.specs.Few.{items}
+use Rattle.claim.specs.declared.claim.Claim.{Claim}
+use Rattle.claim.specs.declared.claim.Cut.{Cut}
+use Rattle.claim.specs.Claim.{by_end}
+use Rattle.theory.specs.Demand.{greatest}
+
+abbrev pub whole_ones : Claim → ℕ → ℕ
+whole_ones c y = (y - c.deadline) / c.period
+
+abbrev pub given_later : Claim → ℕ → ℕ
+given_later c y = whole_ones c y * c.whole + by_end c c.arrival (y - (whole_ones c y + 1) * c.period)
+
+abbrev pub given_at : Claim → ℕ → Cut → ℕ
+given_at c n k = by_end c k (k.«from» + n) + given_later c (k.«from» + n)
+
+abbrev pub given : Claim → ℕ → ℕ
+given c n = max (given_at c n c.arrival) (greatest (given_at c n) (items c.cuts))

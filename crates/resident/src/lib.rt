@@ -1,0 +1,4 @@
+//! A job that sits on the engines of a board.
+#![tactic(auto)]
+
+pub mod resident;
