@@ -3,3 +3,4 @@
 
 pub mod asking;
 pub mod claim;
+pub mod making;

@@ -1,0 +1,49 @@
+//! Making the claim of a part.
+ghost use Rattle.std.specs.Prelude.{◌≡◌, ◌≤◌, false, slice_index_or};
+ghost use Rattle.claim.specs.Claim.{Claims};
+ghost use Rattle.claim.specs.Making.{CutOf, CutsOf, most_within};
+ghost use Rattle.few.specs.Few.{items};
+ghost use Rattle.plan.specs.Part.{part_of, tasks_in};
+ghost use Rattle.plan.specs.Pattern.{branch_of, part_pattern};
+ghost use Rattle.theory.specs.Pattern.{inner};
+
+use crate::claim::{Claim, Cut};
+use few::few::Few;
+use plan::part::{Part, Task};
+use plan::plan::Plan;
+use std::array;
+use task::node::{NODES, Ticks};
+
+/// What fills the places of a list of cuts after the last one.
+const BLANK: Cut = Cut {
+    from: 0,
+    most: [0; NODES],
+};
+
+/// Whether the row says that the sub-task is reached.
+fn is_reached(row: &[bool; NODES], task: &Task) -> bool
+    ensures { result ≡ slice_index_or row.now task.now.node false }
+{
+    row.get(task.node).copied().unwrap_or(false)
+}
+
+/// The work of one arrival with this row, of the windows between two moments after it.
+fn within(part: &Part, row: &[bool; NODES], from: Ticks, by: Ticks) -> Ticks
+    ensures work { result ≡ inner (branch_of (tasks_in part.now) row.now) from by }
+    ensures light { result ≤ 345600 }
+{
+    part.tasks
+        .iter()
+        .filter(|task| is_reached(row, task) && from <= task.window.offset && task.window.deadline <= by)
+        .map(|task| task.ticks)
+        .sum()
+}
+
+/// The most that one arrival asks between two moments after it.
+fn most_within(part: &Part, rows: &[[bool; NODES]], from: Ticks, by: Ticks) -> Ticks
+    ensures most { result ≡ most_within (tasks_in part.now) rows.now from by }
+    ensures light { result ≤ 345600 }
+{
+    rows.iter()
+        .fold(0, |most, row| within(part, row, from, by).max(most))
+}
