@@ -1,5 +1,5 @@
 -- A fold that keeps the greatest value so far.
-use Rattle.std.proofs.Common.{◌≡◌, ℕ, ◌+◌, ◌*◌, ◌≤◌, max, List, [], ◌∷◌, length, arith, ◌∙◌, ap}
+use Rattle.std.proofs.Common.{◌≡◌, ℕ, max, List, [], ◌∷◌, arith}
 use Rattle.std.specs.List.{fold}
 use Rattle.theory.specs.Demand.{greatest}
 

@@ -1,3 +1,5 @@
 pub mod Folding
 pub mod Giving
 pub mod Within
+pub mod Stairs
+pub mod Cutting

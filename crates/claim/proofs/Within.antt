@@ -25,7 +25,7 @@ taken_cond : (b : Bool) (t : Task) (ts : List Task) → sum_by (λ (x : Task). x
 taken_cond true t ts = sum_by-cons (λ (x : Task). x.ticks) t ts
 taken_cond false t ts = refl
 
-branch_cond : (r : Bool) (u y : ℕ) (t : Task) (ts : List Task) → inner (map window_of (cond r (t ∷ ts) ts)) u y ≡ cond r (share u y (window_of t) + inner (map window_of ts) u y) (inner (map window_of ts) u y)
+pub branch_cond : (r : Bool) (u y : ℕ) (t : Task) (ts : List Task) → inner (map window_of (cond r (t ∷ ts) ts)) u y ≡ cond r (share u y (window_of t) + inner (map window_of ts) u y) (inner (map window_of ts) u y)
 branch_cond true u y t ts = sum_by-cons (share u y) (window_of t) (map window_of ts)
 branch_cond false u y t ts = refl
 

@@ -2,7 +2,7 @@
 --   most_within ts rows u y    the most that one arrival asks between u and y after it
 --   CutOf ts rows u k          the cut k is at u, and beside the end of each sub-task it has the most from there to it
 --   CutsOf ts rows ks          the cuts ks are at the offsets of the sub-tasks, one for each
-use Rattle.std.specs.Prelude.{◌≡◌, ℕ, ◌<◌, Bool, List, length, slice_index, slice_index_or}
+use Rattle.std.specs.Prelude.{◌≡◌, ℕ, ◌<◌, ◌≤◌, Bool, List, length, slice_index, slice_index_or}
 use Rattle.std.specs.List.{AllZip}
 use Rattle.claim.specs.declared.claim.Cut.{Cut}
 use Rattle.plan.specs.declared.part.Task.{Task}
@@ -15,6 +15,7 @@ most_within ts rows u y = greatest (λ (row : List Bool). inner (branch_of ts ro
 
 pub record CutOf (ts : List Task) (rows : List (List Bool)) (u : ℕ) (k : Cut) : Type 0 where
   pub its_moment : k.«from» ≡ u
+  pub all_beside : length ts ≤ length k.most
   pub beside : (i : ℕ) (d : Task) → i < length ts → slice_index k.most i ≡ most_within ts rows u (slice_index_or ts i d).window.deadline
 
 abbrev pub CutsOf : List Task → List (List Bool) → List Cut → Type 0

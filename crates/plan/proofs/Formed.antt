@@ -3,7 +3,7 @@ use Rattle.std.proofs.Common.{◌≡◌, ℕ, zero, suc, ◌%◌, ◌<◌, ◌�
 use lib.ListN.{length-map}
 use Rattle.plan.specs.declared.part.Task.{Task}
 use Rattle.plan.specs.declared.plan.Plan.{Plan}
-use Rattle.plan.specs.Part.{task_at, tasks_below, tasks_where, tagged}
+use Rattle.plan.specs.Part.{part_of, task_at, tasks_below, tasks_where, tagged}
 use Rattle.plan.specs.Pattern.{branch_of, part_pattern, pattern_of, window_of}
 use Rattle.plan.specs.Plan.{nodes_of, reached_rows}
 use Rattle.std.specs.List.{AllByRecursion}
@@ -90,3 +90,7 @@ tagged_only g (Conditional nodes) is = absurd (let z : ◌≡◌ {A = ℕ} 0 1 =
 
 pub part_formed : (p : Plan) (g : ℕ) → WellFormed (part_pattern p g)
 part_formed p g = pattern_formed p (tagged g) (tagged_only g)
+
+-- every window of a part, of a branch or of none, opens before it closes and closes by the deadline
+pub part_fits : (p : Plan) (g : ℕ) → AllByRecursion (λ x. FitsIn p.job.deadline (window_of x)) (part_of p g)
+part_fits p g = tasks_fit p (tagged g) (tagged_only g)

@@ -1,0 +1,23 @@
+use Rattle.std.proofs.Common.{rules, refl, ◌≡◌, ◌≤◌, length, map, sym}
+use Rattle.few.specs.Few.{items}
+use Rattle.claim.specs.Making.{CutOf, CutsOf, most_within}
+use Rattle.claim.proofs.Cutting.{claims_made}
+use Rattle.claim.proofs.Stairs.{end_of}
+use Rattle.plan.specs.Part.{part_of, tasks_in}
+use Rattle.plan.specs.Plan.{reached_rows}
+use Rattle.plan.proofs.Formed.{part_fits, part_formed}
+use Rattle.claim.proofs.claim.Claim.of.Goals as goal
+
+pub returns : goal.returns
+returns c =
+    let p = c.args.plan.now in
+    let g = c.args.tag in
+    let rows = c.as_slice-rows.result.now in
+    let some : 1 ≤ length (part_of p g) = search rules in
+    let ts : tasks_in c.part-part.result ≡ part_of p g = c.part-part.ensures in
+    let rs : rows ≡ reached_rows p = search rules in
+    let whole : c.most_within.result ≡ most_within (part_of p g) (reached_rows p) 0 p.job.deadline = rw (sym ts, sym rs) c.most_within.ensures.most in
+    let ends : items c.ends.result ≡ map end_of (part_of p g) = rw (sym ts) c.ends.ensures in
+    let arrival : CutOf (part_of p g) (reached_rows p) 0 c.cut.result = rw (sym ts, sym rs) c.cut.ensures in
+    let cuts : CutsOf (part_of p g) (reached_rows p) (items c.cuts.result) = rw (sym ts, sym rs) c.cuts.ensures in
+    (some, claims_made p (part_of p g) (part_formed p g) (part_fits p g) _ ends refl refl whole arrival cuts)
