@@ -1,0 +1,5 @@
+pub mod Pacing
+pub mod Serving
+pub mod Spending
+pub mod Stating
+pub mod Walking

@@ -1,0 +1,23 @@
+-- The claims so far, and the next one.
+use Rattle.std.proofs.Common.{◌≡◌, ℕ, ◌+◌, ◌<◌, ◌≤◌, List, map, take, length, get_or, Bor, sym, ap, ◌∙◌, arith}
+use Rattle.std.proofs.lemmas.List.{get_or-map, length-map}
+use Rattle.std.proofs.lemmas.List.Sums.{sum_by_more, sum_by_more_le}
+use Rattle.claim.specs.declared.claim.Claim.{Claim}
+use Rattle.claim.specs.Asking.{given}
+use Rattle.fit.specs.Fits.{given_of_all}
+
+abbrev pub shown : List (Bor Claim) → List Claim
+shown bs = map (λ b. b.now) bs
+
+module _ (bs : List (Bor Claim)) (n i : ℕ) (b : Bor Claim) (below : i < length bs) (is : b ≡ get_or bs i b) where
+  there : i < length (shown bs)
+  there = omega (arith, length-map bs (λ (x : Bor Claim). x.now))
+
+  at_place : get_or (shown bs) i b.now ≡ b.now
+  at_place = get_or-map (λ (x : Bor Claim). x.now) bs i b b.now below ∙ ap (λ (x : Bor Claim). x.now) (sym is)
+
+  pub with_next : given_of_all (take (i + 1) (shown bs)) n ≡ given_of_all (take i (shown bs)) n + given b.now n
+  with_next = omega (arith, sum_by_more (λ c. given c n) (shown bs) i b.now there, ap (λ (c : Claim). given c n) at_place)
+
+  pub next_within : given_of_all (take i (shown bs)) n + given b.now n ≤ given_of_all (shown bs) n
+  next_within = omega (arith, sum_by_more_le (λ c. given c n) (shown bs) i b.now there, ap (λ (c : Claim). given c n) at_place)

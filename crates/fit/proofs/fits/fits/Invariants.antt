@@ -1,0 +1,14 @@
+use Rattle.std.proofs.Common.{◌≤◌, ◌<◌, List, map, ℕ}
+use Rattle.fit.specs.Stated.{Stated}
+use Rattle.theory.specs.Demand.{demand_of_all}
+use Rattle.theory.specs.Pattern.{Pattern}
+use Rattle.fit.proofs.fits.fits.Given as goal
+
+abbrev pub invariant-loop-ticks : goal.invariant-loop-ticks
+invariant-loop-ticks g l = record {
+  within : l.ticks ≤ 28800;
+  passed : (ps : List Pattern) → Stated ps (map (λ c. c.now) l.claims) → (n : ℕ) → l.ticks < n → n ≤ 28800 → demand_of_all ps n ≤ g.P.Supply.supply l.platform l.engine n;
+}
+
+abbrev pub decreases-loop-ticks : goal.decreases-loop-ticks
+decreases-loop-ticks g l = l.ticks

@@ -1,0 +1,56 @@
+//! The fit test of an engine.
+ghost use Rattle.std.specs.Prelude.{◌≡◌, ◌-◌, ◌≤◌, ◌↔◌, IsTrue, List, map, SomeIff};
+ghost use Rattle.fit.specs.Fits.{Fits, LeastFor, Paced, given_of_all};
+ghost use Rattle.fit.specs.Stated.{Stated};
+ghost use Rattle.theory.specs.Pattern.{Pattern};
+
+use claim::claim::Claim;
+use engine::supply::{FARTHEST, Supply};
+
+/// What the claims leave of the ticks that are served in so many; nothing where they ask for more.
+fn spare(claims: &[&Claim], ticks: u32, served: u64) -> Option<u64>
+    ensures { SomeIff result (given_of_all (map (λ c. c.now) claims.now) ticks ≤ served) (served - given_of_all (map (λ c. c.now) claims.now) ticks) }
+{
+    let mut left = served;
+    for claim in claims {
+        left = left.checked_sub(claim.demand(ticks))?;
+    }
+    Some(left)
+}
+
+/// The least number of ticks in which an engine serves so much, where it does in this many.
+fn least_for<P: Supply>(platform: &P, engine: usize, ticks: u32, asked: u64) -> u32
+    requires few { ticks ≤ 28800 }
+    requires enough { asked ≤ P.Supply.supply platform.now engine ticks }
+    ensures { LeastFor (P.Supply.supply platform.now engine) asked result }
+{
+    let mut low = 0;
+    let mut high = ticks;
+    while low < high {
+        let middle = (low + high) / 2;
+        if u64::from(platform.supply(engine, middle)) < asked {
+            low = middle + 1;
+        } else {
+            high = middle;
+        }
+    }
+    low
+}
+
+/// Whether the engine serves what the claims ask, in every number of ticks.
+pub fn fits<P: Supply>(platform: &P, engine: usize, claims: &[&Claim]) -> bool
+    ensures fits { (ps : List Pattern) → Stated ps (map (λ c. c.now) claims.now) → IsTrue result ↔ Fits (P.Supply.supply platform.now engine) ps }
+    ensures paced { (ps : List Pattern) → Stated ps (map (λ c. c.now) claims.now) → IsTrue result → Paced (map (λ c. c.now) claims.now) }
+{
+    // Twice a belt cycle settles every number of ticks, so the walk begins there.
+    let mut ticks = FARTHEST;
+    while ticks > 0 {
+        let served = u64::from(platform.supply(engine, ticks));
+        let Some(spare) = spare(claims, ticks, served) else {
+            return false;
+        };
+        // In fewer ticks no more is asked, so those in which as much is served need no look.
+        ticks = least_for(platform, engine, ticks, served - spare).saturating_sub(1);
+    }
+    true
+}

@@ -1,0 +1,4 @@
+//! Whether an engine serves what claims ask of it.
+#![tactic(auto)]
+
+pub mod fits;
