@@ -1,0 +1,4 @@
+pub mod Refusal
+pub mod Asked
+pub mod Placing
+pub mod Loading

@@ -1,0 +1,6 @@
+//! The board: jobs that sit on its engines, and the calls that place them.
+#![tactic(auto)]
+
+pub mod asked;
+pub mod board;
+pub mod refusal;
