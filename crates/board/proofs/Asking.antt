@@ -38,7 +38,7 @@ kept_few p (x ∷ xs) = let rec = kept_few p xs in elim (cases_Bool (p x)) [
 pub claims_few : (e : ℕ) (ss : List Seat) → length (claims_of e ss) ≤ length ss
 claims_few e ss = omega (arith, length-map (filter (λ (s : Seat). s.engine == e) ss) (λ (s : Seat). s.claim), kept_few (λ (s : Seat). s.engine == e) ss)
 
-seats_few : (r : Resident) → length (items r.seats) ≤ 8
+pub seats_few : (r : Resident) → length (items r.seats) ≤ 8
 seats_few r = omega (arith, length-take r.seats.len r.seats.places, r.seats.fits)
 
 -- 8 of each resident are the most

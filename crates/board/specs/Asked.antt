@@ -6,8 +6,8 @@
 --   load_of p           the ticks in a belt cycle of what asks by the pattern p: its largest total over the branches, a period apart
 --   load_on rs e        the load of the engine e
 --   loads rs            the loads of the 16 engines that there can be
-use Rattle.std.specs.Prelude.{ℕ, ◌*◌, ◌/◌, List, [], ◌∷◌, map, filter, sum_by, ◌==◌}
-use Rattle.std.specs.List.{flat_map}
+use Rattle.std.specs.Prelude.{ℕ, ◌*◌, ◌/◌, List, map, filter, sum_by, ◌==◌}
+use Rattle.std.specs.List.{flat_map, range_with_len}
 use Rattle.few.specs.Few.{items}
 use Rattle.claim.specs.declared.claim.Claim.{Claim}
 use Rattle.plan.specs.Pattern.{part_pattern}
@@ -35,4 +35,4 @@ abbrev pub load_on : List Resident → ℕ → ℕ
 load_on rs e = sum_by load_of (asked_on rs e)
 
 abbrev pub loads : List Resident → List ℕ
-loads rs = map (load_on rs) (0 ∷ 1 ∷ 2 ∷ 3 ∷ 4 ∷ 5 ∷ 6 ∷ 7 ∷ 8 ∷ 9 ∷ 10 ∷ 11 ∷ 12 ∷ 13 ∷ 14 ∷ 15 ∷ [])
+loads rs = map (load_on rs) (range_with_len 0 16)
