@@ -1,5 +1,5 @@
 //! The sheet of a placed job.
-ghost use Rattle.std.specs.Prelude.{◌≡◌, ◌<◌, ◌≤◌, ◌↔◌, ◌++◌, length, drop, if◌then◌else◌, Some, None, IsErr, IfOk, OnErr};
+ghost use Rattle.std.specs.Prelude.{◌≡◌, ◌<◌, ◌≤◌, ◌↔◌, ◌++◌, length, drop, codes, if◌then◌else◌, Some, None, IsErr, IfOk, OnErr};
 ghost use Rattle.plan.specs.Plan.{nodes_of};
 ghost use Rattle.sheet.specs.Sheet.{has_line, line_at, sheet_of};
 
@@ -18,6 +18,8 @@ pub const SHEET: usize = TITLE + NODES * LINE;
 pub struct Short;
 
 impl fmt::Display for Short {
+    ghost output = { λ _. Some (codes "the buffer is too short for the sheet") };
+
     fn fmt<W: fmt::Write>(&self, f: &mut fmt::Formatter<W>) -> fmt::Result {
         write!(f, "the buffer is too short for the sheet")
     }
