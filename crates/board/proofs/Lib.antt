@@ -1,2 +1,5 @@
 pub mod Asking
 pub mod Loads
+pub mod Stating
+pub mod Listed
+pub mod Steps

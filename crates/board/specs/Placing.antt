@@ -1,6 +1,6 @@
 -- Placing a job on the engines of a board, beside its residents.
 --   Rules                          what the placing goes by: the tags of the engines, their supply, the slack rule, and the order of engines after tellings
---   FitsOn rules rs e p            on the engine e, what asks by the pattern p fits beside the residents rs
+--   FitsOn supply rs e p           on the engine e, what asks by the pattern p fits beside the residents rs
 --   tried rules rs g               the engines of the tag g, in the order in which they are tried
 --   FirstFit rules rs p es e       e is the first of the engines es on which p fits
 --   Sits rules rs p s              the seat s of the plan p is on the first engine on which its part fits
@@ -35,8 +35,8 @@ pub record Rules : Type 0 where
   pub local : Position → ℕ
   pub listing : List (ℕ × ℕ) → List ℕ → ℕ → List ℕ → List ℕ
 
-abbrev pub FitsOn : Rules → List Resident → ℕ → Pattern → Type 0
-FitsOn rules rs e p = Fits (rules.supply e) (p ∷ asked_on rs e)
+abbrev pub FitsOn : (ℕ → ℕ → ℕ) → List Resident → ℕ → Pattern → Type 0
+FitsOn supply rs e p = Fits (supply e) (p ∷ asked_on rs e)
 
 abbrev pub tried : Rules → List Resident → ℕ → List ℕ
 tried rules rs g = rules.listing [] rules.tags g (loads rs)
@@ -44,8 +44,8 @@ tried rules rs g = rules.listing [] rules.tags g (loads rs)
 pub record FirstFit (rules : Rules) (rs : List Resident) (p : Pattern) (es : List ℕ) (e : ℕ) : Type 0 where
   pub place : ℕ
   pub there : slice_get es place ≡ Some e
-  pub fits : FitsOn rules rs e p
-  pub none_before : (k d : ℕ) → k < place → slice_get es k ≡ Some d → FitsOn rules rs d p → ⊥
+  pub fits : FitsOn rules.supply rs e p
+  pub none_before : (k d : ℕ) → k < place → slice_get es k ≡ Some d → FitsOn rules.supply rs d p → ⊥
 
 abbrev pub Sits : Rules → List Resident → Plan → Seat → Type 0
 Sits rules rs p s = FirstFit rules rs (part_pattern p s.tag) (tried rules rs s.tag) s.engine
@@ -59,7 +59,7 @@ pub record Stuck (rules : Rules) (rs : List Resident) (j : Job) (c : ℕ) : Type
   pub planned : IsPlan rules.local j c plan
   pub tag : ℕ
   pub has : has_part plan tag ≡ true
-  pub nowhere : (e : ℕ) → tag_of rules.tags e ≡ Some tag → FitsOn rules rs e (part_pattern plan tag) → ⊥
+  pub nowhere : (e : ℕ) → tag_of rules.tags e ≡ Some tag → FitsOn rules.supply rs e (part_pattern plan tag) → ⊥
 
 abbrev pub CannotBePlaced : Rules → List Resident → Job → ℕ → Type 0
 CannotBePlaced rules rs j c = Possible (graph j) c j.deadline → Stuck rules rs j c

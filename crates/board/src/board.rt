@@ -1,7 +1,4 @@
 //! A board that does not run.
-ghost use Rattle.std.specs.Prelude.{◌≡◌, []};
-ghost use Rattle.few.specs.Few.{items};
-
 use few::few::Few;
 use resident::resident::Resident;
 

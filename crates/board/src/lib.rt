@@ -3,4 +3,5 @@
 
 pub mod asked;
 pub mod board;
+pub mod placing;
 pub mod refusal;

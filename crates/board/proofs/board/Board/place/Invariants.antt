@@ -1,0 +1,40 @@
+use Rattle.std.proofs.Common.{◌≡◌, ℕ, ◌<◌, map, take, filter}
+use Rattle.std.specs.List.{All}
+use Rattle.board.specs.Placing.{CannotBePlaced, Rules, Sits, tried}
+use Rattle.board.proofs.Steps.{NoneBefore}
+use Rattle.few.specs.Few.{items}
+use Rattle.plan.specs.Pattern.{part_pattern}
+use Rattle.resident.specs.Seats.{Fair, all_tags, has_part}
+use Rattle.board.proofs.board.Board.place.Given as goal
+
+abbrev pub invariant-loop-place : goal.invariant-loop-place
+invariant-loop-place g l =
+    let rules : Rules = record {
+      tags = g.P.Roster.tags l.self.platform;
+      supply = g.P.Supply.supply l.self.platform;
+      local = g.R.SlackRule.local l.self.rule;
+      listing = g.O.EngineOrder.listing l.self.order;
+    } in
+    (items l.seats ≡ items l.initial.seats) × NoneBefore rules (items l.self.residents) (part_pattern l.plan l.tag) (tried rules (items l.self.residents) l.tag) l.place
+
+abbrev pub invariant-tags : goal.invariant-tags
+invariant-tags g l =
+    let rules : Rules = record {
+      tags = g.P.Roster.tags l.self.platform;
+      supply = g.P.Supply.supply l.self.platform;
+      local = g.R.SlackRule.local l.self.rule;
+      listing = g.O.EngineOrder.listing l.self.order;
+    } in
+    (map (λ s. s.tag) (items l.seats) ≡ filter (λ t. has_part l.plan t) (take l.tag all_tags))
+    × All (Fair l.plan) (items l.seats)
+    × All (Sits rules (items l.self.residents) l.plan) (items l.seats)
+
+abbrev pub invariant-choices : goal.invariant-choices
+invariant-choices g l =
+    let rules : Rules = record {
+      tags = g.P.Roster.tags l.self.platform;
+      supply = g.P.Supply.supply l.self.platform;
+      local = g.R.SlackRule.local l.self.rule;
+      listing = g.O.EngineOrder.listing l.self.order;
+    } in
+    (c : ℕ) → c < l.choice → CannotBePlaced rules (items l.self.residents) l.job c
