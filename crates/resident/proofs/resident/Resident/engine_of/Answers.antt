@@ -1,5 +1,4 @@
 use Rattle.std.proofs.Common.{rules, ◌≡◌, ℕ, Bool, eqb, List, [], ◌∷◌, Some, None, Option, refl, ap, ◌∙◌, Bor, inl, inr}
-use borrow.Author.Tests.{tests}
 use Rattle.few.specs.Few.{items}
 use Rattle.resident.specs.declared.resident.Seat.{Seat}
 use Rattle.resident.specs.Resident.{engine_among}
@@ -28,5 +27,5 @@ pub returns : goal.returns
 returns c =
     let ss = items c.args.self.now.seats in
     let test : Seat → Bool = λ s. eqb s.tag c.args.tag in
-    let found = find_from_yields_List test _ _ c.find.result c.find.ensures.ran (YieldsList-from_slice ss (search rules)) (λ x b q k. search (rules, tests)) in
+    let found = find_from_yields_List test _ _ c.find.result c.find.ensures.ran (YieldsList-from_slice ss (search rules)) (λ x b q k. (search rules, search rules)) in
     made _ (λ (s : Seat). s.engine) (λ x y k. search rules) c.find.result c.map.result c.map.ensures.cases ∙ ap (option_map (λ (s : Seat). s.engine)) found ∙ engine_found ss c.args.tag
