@@ -50,9 +50,9 @@ module _ (p : Plan) (e : ℕ) where
       let left = kept_sum (λ (x : Seat). in_cycle x.claim) (is_on e s) s (filter (is_on e) ss) in
       let most = light (is_on e s) (in_cycle s.claim) in
       omega arith where
-    light : (b : Bool) (n : ℕ) → cond b n 0 ≤ n
-    light true n = omega arith
-    light false n = omega arith
+        light : (b : Bool) (n : ℕ) → cond b n 0 ≤ n
+        light true n = omega arith
+        light false n = omega arith
 
 pub by_resident : (r : Resident) (e : ℕ) → sum_by (λ (s : Seat). in_cycle s.claim) (filter (is_on e) (items r.seats)) ≡ sum_by load_of (asked_by r e)
 by_resident r e = seats_load r.plan e (items r.seats) r.seated

@@ -12,6 +12,6 @@ returns c =
     let rs = items c.args.residents.now in
     let long = length-map-range_with_len (load_on rs) 0 16 in
     same_lists c.from_fn.result (loads rs) (omega (arith, c.from_fn.ensures.items.long)) (λ k d low.
-        let below : k < 16 = omega (arith, c.from_fn.ensures.items.long) in
-        filled c.from_fn.ensures.items (λ i (y : ℕ). y ≡ load_on rs i) (λ i y f' short q. (search rules, search rules)) k d below
-        ∙ sym (get_or-map-range_with_len (load_on rs) 0 16 k k d below (omega arith)))
+    let below : k < 16 = omega (arith, c.from_fn.ensures.items.long) in
+    filled c.from_fn.ensures.items (λ i (y : ℕ). y ≡ load_on rs i) (λ i y f' short q. (search rules, search rules)) k d below
+    ∙ sym (get_or-map-range_with_len (load_on rs) 0 16 k k d below (omega arith)))
