@@ -1,0 +1,5 @@
+pub mod Tables
+pub mod Graph
+pub mod Lengths
+pub mod Windows
+pub mod Asked
