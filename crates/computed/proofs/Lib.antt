@@ -1,2 +1,3 @@
+pub mod Graph
 pub mod Tables
 pub mod Worked

@@ -89,3 +89,9 @@ module _ {X : Type 0} (d : X) (f : (ℕ → X) → ℕ → X) where
 
   pub falling_past : (n v : ℕ) → n ≤ v → get_or (falling d f 0 n) v d ≡ d
   falling_past n v past = get_or_past (falling d f 0 n) v d (omega (arith, length-falling n 0))
+
+pub some_below_same : (p q : ℕ → Bool) (n : ℕ) → ((u : ℕ) → u < n → p u ≡ q u) → some_below p n ≡ some_below q n
+unfolding some_below
+some_below_same p q zero same = refl
+some_below_same p q (suc n) same =
+    ap (λ b. b || p n) (some_below_same p q n (λ u low. same u (omega arith))) ∙ ap (λ b. some_below q n || b) (same n (omega arith))
