@@ -67,3 +67,48 @@ module _ (ns : List Node) (keep : ℕ → ℕ → Bool) where
 
     pub led_told : Tells (Led ns keep) (led ns keep)
     led_told v = (λ y. led_sound (suc v) v (omega arith) y, λ l. led_whole l)
+
+module _ (ns : List Node) (upward : Upward ns) (c : ℕ) where
+  choice_rises : Rises ns (by_choice ns c)
+  choice_rises = some_rise ns upward (by_choice ns c) (λ u v y. (and_parts (edge ns u v) (keeps Choice ns c u v) y).0)
+
+  kept_is : (u v : ℕ) → leads (kept ns c) u v ≡ by_choice ns c u v
+  kept_is = rows_lead (by_choice ns c) (length ns) choice_rises
+
+  kept_rises : Rises ns (leads (kept ns c))
+  kept_rises u v y = choice_rises u v (sym (kept_is u v) ∙ y)
+
+  pub members_told : Tells (Member ns c) (led ns (leads (kept ns c)))
+  members_told = told_same ns (leads (kept ns c)) (by_choice ns c) kept_is (led ns (leads (kept ns c))) (led_told ns (leads (kept ns c)) upward kept_rises)
+
+  length-members : length (concrete ns c).members ≡ length ns
+  length-members = length-rising false (is_led ns (leads (kept ns c))) (length ns)
+
+  edges_are : (u v : ℕ) → leads (concrete ns c).edges u v ≡ (leads (kept ns c) u v && get_or (concrete ns c).members u false)
+  edges_are = rows_lead (λ u v. leads (kept ns c) u v && get_or (concrete ns c).members u false) (length (concrete ns c).members) (λ u v y.
+      let (low, inside) = kept_rises u v (and_parts (leads (kept ns c) u v) (get_or (concrete ns c).members u false) y).0 in
+      (low, omega (arith, length-members)))
+
+  pub concrete_is : IsConcrete ns c (concrete ns c)
+  concrete_is = record {
+    nodes = members_told;
+    edges = λ u v. (
+      (λ y.
+          let (k, m) = and_parts (leads (kept ns c) u v) (get_or (concrete ns c).members u false) (sym (edges_are u v) ∙ y) in
+          ((members_told u).0 m, sym (kept_is u v) ∙ k)),
+      (λ both. edges_are u v ∙ and_from _ _ (kept_is u v ∙ both.1) ((members_told u).1 both.0)),
+    );
+  }
+
+  abbrev kept_by_both : ℕ → List (List Bool)
+  kept_by_both b = rows (λ u v. leads (kept ns c) u v && keeps Branch ns b u v) (length ns)
+
+  kept_by_both_is : (b u v : ℕ) → leads (kept_by_both b) u v ≡ by_both ns c b u v
+  kept_by_both_is b u v =
+      rows_lead (λ x y. leads (kept ns c) x y && keeps Branch ns b x y) (length ns) (λ x y e. kept_rises x y (and_parts (leads (kept ns c) x y) (keeps Branch ns b x y) e).0) u v
+      ∙ ap (λ k. k && keeps Branch ns b u v) (kept_is u v)
+
+  pub reached_told : (b : ℕ) → Tells (Reached ns c b) (reached_of ns (kept ns c) b)
+  reached_told b =
+      let rises : Rises ns (leads (kept_by_both b)) = λ u v y. choice_rises u v (and_parts (by_choice ns c u v) (keeps Branch ns b u v) (sym (kept_by_both_is b u v) ∙ y)).0 in
+      told_same ns (leads (kept_by_both b)) (by_both ns c b) (kept_by_both_is b) (reached_of ns (kept ns c) b) (led_told ns (leads (kept_by_both b)) upward rises)
