@@ -22,12 +22,10 @@ use Rattle.computed.specs.Windows.{due, ends, opens, windows, windows_by, window
 use Rattle.computed.specs.Tables.{each, rising}
 use Rattle.computed.proofs.Tables.{each_at, each_past, LooksBack, rising_at, rising_past}
 
-laid_by : (ns : List Node) (g : Concrete) (L e : ℕ → ℕ) (v : ℕ) (m : Bool) → MatchBool m
-    ((cond m (greatest (λ u. leads g.edges u v) e 24) 0 ≡ greatest (λ u. leads g.edges u v) e 24)
-    × (cond m (cond (is_sub_task (at ns v)) (L v) (cond m (greatest (λ u. leads g.edges u v) e 24) 0)) 0 ≡ cond (is_sub_task (at ns v)) (L v) (cond m (greatest (λ u. leads g.edges u v) e 24) 0)))
-    ((cond m (greatest (λ u. leads g.edges u v) e 24) 0 ≡ 0) × (cond m (cond (is_sub_task (at ns v)) (L v) (cond m (greatest (λ u. leads g.edges u v) e 24) 0)) 0 ≡ 0))
-laid_by ns g L e v true = (refl, refl)
-laid_by ns g L e v false = (refl, refl)
+-- a member opens at G and is due at D; else both are 0
+match_cond : (m : Bool) (G x : ℕ) (D : ℕ → ℕ) → x ≡ cond m (D (cond m G 0)) 0 → MatchBool m ((cond m G 0 ≡ G) × (x ≡ D (cond m G 0))) ((cond m G 0 ≡ 0) × (x ≡ 0))
+match_cond true G x D e = (refl, e)
+match_cond false G x D e = (refl, e)
 
 module _ (ns : List Node) (sound : Sound ns) (c d : ℕ) (g : Concrete) (is : IsConcrete ns c g) (L : ℕ → ℕ) where
   opens_back : (a b : ℕ → ℕ) (v : ℕ) → ((u : ℕ) → u < v → a u ≡ b u) → opens g a v ≡ opens g b v
@@ -58,21 +56,23 @@ module _ (ns : List Node) (sound : Sound ns) (c d : ℕ) (g : Concrete) (is : Is
   abbrev made : List Window
   made = windows_of g (ends ns g L) (length ns)
 
-  window_at : (v : ℕ) → (offset_of made v ≡ opens g (λ u. get_or (ends ns g L) u 0) v) × (deadline_of made v ≡ due ns g L (λ u. get_or (ends ns g L) u 0) v)
+  window_at : (v : ℕ) → (offset_of made v ≡ opens g (λ u. get_or (ends ns g L) u 0) v) × (deadline_of made v ≡ get_or (ends ns g L) v 0)
   window_at v =
       let F : ℕ → Window = λ w. record { offset = opens g (λ u. get_or (ends ns g L) u 0) w; deadline = get_or (ends ns g L) w 0 } in
       elim (cases_lt v (length ns)) [
-        | inl low ↦
-            let here = each_at F (length ns) v closed low in
-            (ap (λ (w : Window). w.offset) here, ap (λ (w : Window). w.deadline) here ∙ ends_are v)
+        | inl low ↦ let here = each_at F (length ns) v closed low in (ap (λ (w : Window). w.offset) here, ap (λ (w : Window). w.deadline) here)
         | inr past ↦
-            let none = each_past F (length ns) v closed past in
-            (ap (λ (w : Window). w.offset) none ∙ sym (opens_past (λ u. get_or (ends ns g L) u 0) v past),
-              ap (λ (w : Window). w.deadline) none ∙ sym (rising_past 0 (due ns g L) (length ns) v past) ∙ ends_are v)
+            let none = each_past F (length ns) v closed past in (
+              ap (λ (w : Window). w.offset) none ∙ sym (opens_past (λ u. get_or (ends ns g L) u 0) v past),
+              ap (λ (w : Window). w.deadline) none ∙ sym (rising_past 0 (due ns g L) (length ns) v past),
+            )
       ]
 
   made_laid : (v : ℕ) → Laid ns g L (offset_of made) (deadline_of made) v
-  made_laid v = ?
+  made_laid v =
+      let E : ℕ → ℕ = λ u. get_or (ends ns g L) u 0 in
+      laid_same ns g L (opens g E) E (offset_of made) (deadline_of made) (λ u. (window_at u).0) (λ u. (window_at u).1) v
+      (match_cond (get_or g.members v false) (greatest (λ u. leads g.edges u v) E 24) (E v) (cond (is_sub_task (at ns v)) (L v)) (ends_are v))
 
 pub windows_are : (ns : List Node) → Sound ns → (c d : ℕ) (g : Concrete) → IsConcrete ns c g → (local : Position → ℕ) (l : Lengths) → IsWindows ns c d local l (windows_by local ns d g l)
 windows_are ns sound c d g is local l =
