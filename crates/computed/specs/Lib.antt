@@ -1,5 +1,6 @@
-pub mod Tables
+pub mod Alike
+pub mod Asked
 pub mod Graph
 pub mod Lengths
+pub mod Tables
 pub mod Windows
-pub mod Asked
