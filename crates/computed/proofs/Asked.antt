@@ -15,7 +15,7 @@ use Rattle.task.specs.declared.job.Job.{Job}
 use Rattle.task.specs.declared.node.Node.{Node}
 use Rattle.task.specs.declared.node.Numbering.TheVariants.{Branch}
 use Rattle.task.specs.Concrete.{Member, Reached}
-use Rattle.task.specs.Flaws.{graph}
+use Rattle.task.specs.Flaws.{graph, MadeOf}
 use Rattle.task.specs.Graph.{at}
 use Rattle.task.specs.Node.{ticks}
 use Rattle.task.specs.Nodes.{Sound}
@@ -25,7 +25,7 @@ use Rattle.theory.specs.Pattern.{Pattern}
 use Rattle.window.specs.declared.layout.Window.{Window}
 use Rattle.window.specs.Windows.{closed}
 use Rattle.computed.specs.Alike.{PlansAlike}
-use Rattle.computed.specs.Asked.{pattern_for, pattern_made, task, tasks, tasks_below, tasks_made}
+use Rattle.computed.specs.Asked.{pattern, pattern_for, pattern_made, task, tasks, tasks_below, tasks_made}
 use Rattle.computed.specs.Graph.{concrete, kept, reached, reached_of}
 use Rattle.computed.specs.Lengths.{lengths}
 use Rattle.computed.specs.Tables.{each}
@@ -143,6 +143,25 @@ module _ (local : Position → ℕ) (j : Job) (c : ℕ) (p : Plan) (is : IsPlan 
   pub reached_are : (b v : ℕ) → get_or (get_or (reached_rows p) b []) v false ≡ get_or (get_or (reached (graph j) c) b []) v false
   reached_are b v =
       subst (λ (k : Job). get_or (get_or (reached_rows p) b []) v false ≡ get_or (get_or (reached (graph k) c) b []) v false) is.its_job (own_reached local c p own b v)
+
+-- of a job that is made of known nodes and numbers
+module _ (local : Position → ℕ) (number period deadline : ℕ) (ns : List Node) (j : Job) (made : MadeOf number period deadline ns j) (c : ℕ) (p : Plan) (is : IsPlan local j c p) where
+  pub known_tasks : (t : Node → Bool) → tasks_where p t ≡ tasks local ns deadline c t
+  known_tasks t =
+      tasks_are local j c p is t ∙ ap (λ d. tasks local (graph j) d c t) made.its_deadline ∙ ap (λ (l : List Node). tasks local l deadline c t) made.its_nodes
+
+  pub known_pattern : (ts : List Task) → pattern_of p ts ≡ pattern period deadline ns c ts
+  known_pattern ts =
+      pattern_is local j c p is ts
+      ∙ ap (λ k. pattern k j.deadline (graph j) c ts) made.its_period
+      ∙ ap (λ d. pattern period d (graph j) c ts) made.its_deadline
+      ∙ ap (λ (l : List Node). pattern period deadline l c ts) made.its_nodes
+
+  pub known_part : (g : ℕ) → part_of p g ≡ tasks local ns deadline c (tagged g)
+  known_part g = known_tasks (tagged g)
+
+  pub known_part_pattern : (g : ℕ) → part_pattern p g ≡ pattern period deadline ns c (tasks local ns deadline c (tagged g))
+  known_part_pattern g = known_pattern (part_of p g) ∙ ap (pattern period deadline ns c) (known_part g)
 
 pub plans_alike : (local : Position → ℕ) (j : Job) (c : ℕ) (p q : Plan) → IsPlan local j c p → IsPlan local j c q → PlansAlike p q
 plans_alike local j c p q a b = record {
