@@ -1,5 +1,5 @@
 -- Every plan of a job under a choice asks what is computed, so two of them ask the same.
-use Rattle.std.proofs.Common.{◌≡◌, ℕ, zero, suc, ◌<◌, ◌≤◌, Bool, true, false, cond, ◌&&◌, leb, List, [], ◌∷◌, ◌++◌, map, length, get_or, filter, refl, sym, ap, ◌∙◌, subst, inl, inr, arith}
+use Rattle.std.proofs.Common.{◌≡◌, ℕ, zero, suc, ◌<◌, Bool, false, cond, ◌&&◌, leb, List, [], ◌∷◌, ◌++◌, map, length, get_or, filter, refl, sym, ap, ◌∙◌, subst, inl, inr, arith}
 use Rattle.std.proofs.Math.Path.{fun_ext}
 use Rattle.std.proofs.lemmas.Bool.{and_parts, cases_lt, leb-true}
 use Rattle.std.proofs.lemmas.Bool.Decides.{same_from_decides}
@@ -28,7 +28,6 @@ use Rattle.computed.specs.Alike.{PlansAlike}
 use Rattle.computed.specs.Asked.{pattern, pattern_for, pattern_made, task, tasks, tasks_below, tasks_made}
 use Rattle.computed.specs.Graph.{concrete, kept, reached, reached_of}
 use Rattle.computed.specs.Lengths.{lengths}
-use Rattle.computed.specs.Tables.{each}
 use Rattle.computed.specs.Windows.{windows}
 use Rattle.computed.proofs.Graph.{concrete_is, members_told, reached_told}
 use Rattle.computed.proofs.Lengths.{lengths_are}
@@ -68,8 +67,8 @@ branch_one ts a b same = ap (λ (f : Task → Bool). map window_of (filter f ts)
 map_one : {X Y : Type 0} (f : X → Y) (xs ys : List X) (d : X) → length xs ≡ length ys → ((k : ℕ) → k < length xs → f (get_or xs k d) ≡ f (get_or ys k d)) → map f xs ≡ map f ys
 map_one f xs ys d long same =
     ext_get_or (f d) (map f xs) (map f ys) (length-map xs f ∙ long ∙ sym (length-map ys f)) (λ k low.
-        let inside : k < length xs = omega (arith, length-map xs f) in
-        get_or-map f xs k d (f d) inside ∙ same k inside ∙ sym (get_or-map f ys k d (f d) (omega arith)))
+    let inside : k < length xs = omega (arith, length-map xs f) in
+    get_or-map f xs k d (f d) inside ∙ same k inside ∙ sym (get_or-map f ys k d (f d) (omega arith)))
 
 -- of a plan of its own job
 module _ (local : Position → ℕ) (c : ℕ) (p : Plan) (is : IsPlan local p.job c p) where

@@ -1,17 +1,16 @@
 -- The computed graph is the concrete graph, and the computed rows say what is reached.
-use Rattle.std.proofs.Common.{◌≡◌, ℕ, zero, suc, ◌<◌, ◌≤◌, Bool, true, false, not, ◌&&◌, ◌||◌, ◌≢◌, List, [], length, get_or, Decides, refl, sym, ap, ◌∙◌, inl, inr, arith}
-use Rattle.std.proofs.lemmas.Bool.{and_from, and_parts, both_ways, cases_lt, false_from_ne_true, not-false, not-true, not_from_false, or_cases, or_left, or_right}
-use Rattle.std.proofs.lemmas.Bool.{cases_Bool, true≢false}
+use Rattle.std.proofs.Common.{◌≡◌, ℕ, zero, suc, ◌<◌, Bool, true, false, not, ◌&&◌, ◌||◌, List, [], length, get_or, sym, ap, ◌∙◌, inl, inr, arith}
+use Rattle.std.proofs.lemmas.Bool.{and_from, and_parts, both_ways, cases_lt, false_from_ne_true, not-true, not_from_false, or_cases, or_left, or_right}
 use Rattle.task.specs.declared.node.Node.{Node}
 use Rattle.task.specs.declared.node.Numbering.TheVariants.{Choice, Branch}
 use Rattle.task.specs.Concrete.{Led, first, next, IsConcrete, Member, Reached, Rises}
 use Rattle.task.specs.Graph.{edge, Upward}
-use Rattle.task.specs.Picks.{by_both, by_choice, keeps, numbers}
+use Rattle.task.specs.Picks.{by_both, by_choice, keeps}
 use Rattle.task.specs.Tables.{leads, Tells}
-use Rattle.task.proofs.Leading.{led_inside, some_rise, told_same}
-use Rattle.computed.specs.Graph.{all_reached, concrete, graph_of, is_led, kept, led, reached, reached_of, rows}
-use Rattle.computed.specs.Tables.{each, rising, some_below}
-use Rattle.computed.proofs.Tables.{each_at, each_past, length-each, length-rising, LooksBack, rising_at, rising_past, some_below_at, some_below_found, some_below_same}
+use Rattle.task.proofs.Leading.{some_rise, told_same}
+use Rattle.computed.specs.Graph.{concrete, is_led, kept, led, reached_of, rows}
+use Rattle.computed.specs.Tables.{each, some_below}
+use Rattle.computed.proofs.Tables.{each_at, each_past, length-rising, LooksBack, rising_at, rising_past, some_below_at, some_below_found, some_below_same}
 
 -- the edges between the numbers below n that lead to a higher one
 abbrev pub Climbs : (ℕ → ℕ → Bool) → ℕ → Type 0
@@ -47,7 +46,7 @@ module _ (ns : List Node) (keep : ℕ → ℕ → Bool) where
         | inl none ↦
             first inside
             (λ u. false_from_ne_true (edge ns u v)
-                (λ e. both_ways (some_below (λ w. edge ns w v) v) (not-true _ none) (some_below_at (λ w. edge ns w v) v u (upward u v e) e)))
+            (λ e. both_ways (some_below (λ w. edge ns w v) v) (not-true _ none) (some_below_at (λ w. edge ns w v) v u (upward u v e) e)))
         | inr some ↦
             let (u, below, both) = some_below_found (λ w. keep w v && get_or (led ns keep) w false) v some in
             let (e, m) = and_parts (keep u v) (get_or (led ns keep) u false) both in

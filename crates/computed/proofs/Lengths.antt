@@ -1,5 +1,5 @@
 -- The computed lengths are those of the longest paths.
-use Rattle.std.proofs.Common.{◌≡◌, ℕ, ◌+◌, ◌-◌, ◌<◌, ◌≤◌, true, false, cond, List, length, get_or, refl, sym, ap, ◌∙◌, subst, inl, inr, arith}
+use Rattle.std.proofs.Common.{◌≡◌, ℕ, ◌+◌, ◌-◌, ◌<◌, true, false, cond, List, length, get_or, refl, sym, ap, ◌∙◌, subst, inl, inr, arith}
 use Rattle.std.proofs.lemmas.Bool.{cases_lt}
 use Rattle.task.specs.declared.node.Node.{Node}
 use Rattle.task.specs.declared.tables.Concrete.{Concrete}
@@ -20,8 +20,7 @@ use Rattle.window.proofs.Maxima.{greatest_same}
 use Rattle.window.proofs.Settling.{settled_past}
 use Rattle.window.proofs.Weighing.{from_nowhere, largest_of, to_nowhere, weighs}
 use Rattle.computed.specs.Lengths.{lengths, onwards, to, weights}
-use Rattle.computed.specs.Tables.{each, falling, rising}
-use Rattle.computed.proofs.Tables.{each_at, each_past, falling_at, falling_past, length-each, length-falling, length-rising, LooksBack, LooksOn, rising_at, rising_past}
+use Rattle.computed.proofs.Tables.{each_at, each_past, falling_at, length-each, length-falling, length-rising, LooksBack, LooksOn, rising_at}
 
 pub weights_made : (m : Measure) (ns : List Node) (g : Concrete) → WeightsOf m ns g.members (weights m ns g)
 weights_made m ns g = (

@@ -1,5 +1,5 @@
 -- What stands in a table that is filled number by number.
-use Rattle.std.proofs.Common.{◌≡◌, ℕ, zero, suc, ◌+◌, ◌-◌, ◌<◌, ◌≤◌, Bool, true, false, ◌||◌, List, [], ◌∷◌, length, get_or, refl, sym, ap, ◌∙◌, subst, inl, inr, arith}
+use Rattle.std.proofs.Common.{◌≡◌, ℕ, zero, suc, ◌+◌, ◌-◌, ◌<◌, ◌≤◌, Bool, true, ◌||◌, [], ◌∷◌, length, get_or, refl, sym, ap, ◌∙◌, subst, inl, inr, arith}
 use Rattle.std.proofs.lemmas.Bool.{cases_eq, false≢true, or_cases, or_left, or_right}
 use Rattle.std.proofs.lemmas.List.{get_or_append_left, get_or_past, get_or_push, length_push}
 use Rattle.std.proofs.lemmas.List.FromFn.{get_or-map-range_with_len, length-map-range_with_len}
@@ -51,7 +51,7 @@ module _ {X : Type 0} (d : X) (f : (ℕ → X) → ℕ → X) where
   rising_at back (suc n) v low =
       let x : X = f (λ u. get_or (rising d f n) u d) n in
       let stays : (u : ℕ) → u < n → get_or (rising d f n) u d ≡ get_or (rising d f (suc n)) u d
-          = λ u below. sym (get_or_append_left (rising d f n) (x ∷ []) d u (omega (arith, length-rising n))) in
+      = λ u below. sym (get_or_append_left (rising d f n) (x ∷ []) d u (omega (arith, length-rising n))) in
       elim (cases_eq v n) [
         | inl e ↦ subst (λ w. get_or (rising d f (suc n)) w d ≡ f (λ u. get_or (rising d f (suc n)) u d) w) (sym e) (get_or_push (rising d f n) x d n (length-rising n) ∙ back _ _ n stays)
         | inr ne ↦ sym (stays v (omega arith)) ∙ rising_at back n v (omega arith) ∙ back _ _ v (λ u below. stays u (omega arith))

@@ -10,7 +10,7 @@ use Rattle.task.specs.Nodes.{Sound}
 use Rattle.task.specs.Tables.{Tells}
 use Rattle.window.specs.declared.layout.Lengths.{Lengths}
 use Rattle.window.specs.declared.layout.Window.{Window}
-use Rattle.window.specs.Lengths.{head, IsLengths, LargestOf, level, tail}
+use Rattle.window.specs.Lengths.{head, IsLengths, LargestOf, level}
 use Rattle.window.specs.Path.{counts, LongestAfter, LongestTo, work}
 use Rattle.window.specs.Windows.{Before, closed, deadline_of, IsWindows, offset_of, Opens, position}
 use Rattle.window.proofs.Longest.{rises}
@@ -72,14 +72,16 @@ module _ (ns : List Node) (sound : Sound ns) (c d : ℕ) (local : Position → �
   members_one zero v low m = absurd (omega arith)
   members_one (suc n) v low m =
       let before : (u : ℕ) → Before ns c u v → deadline_of w u ≡ deadline_of x u
-          = λ u e. (members_one n u (omega (arith, (rises ns sound c u v e.1).0)) e.0).1 in
+      = λ u e. (members_one n u (omega (arith, (rises ns sound c u v e.1).0)) e.0).1 in
       let up = opens_most ns c (deadline_of w) (deadline_of x) v (offset_of w v) (offset_of x v) before (a.offsets v m) (b.offsets v m) in
       let down = opens_most ns c (deadline_of x) (deadline_of w) v (offset_of x v) (offset_of w v) (λ u e. sym (before u e)) (b.offsets v m) (a.offsets v m) in
-      let opens : offset_of w v ≡ offset_of x v = omega arith in
-      (opens, elim (cases_Bool (is_sub_task (at ns v))) [
-        | inl s ↦ a.sub_task v m s ∙ ap local (alike v m) ∙ sym (b.sub_task v m s)
-        | inr f ↦ a.fork v m f ∙ opens ∙ sym (b.fork v m f)
-      ])
+      let opens : offset_of w v ≡ offset_of x v = omega arith in (
+        opens,
+        elim (cases_Bool (is_sub_task (at ns v))) [
+          | inl s ↦ a.sub_task v m s ∙ ap local (alike v m) ∙ sym (b.sub_task v m s)
+          | inr f ↦ a.fork v m f ∙ opens ∙ sym (b.fork v m f)
+        ],
+      )
 
   pub windows_one : (table : List Bool) → Tells (Member ns c) table → (v : ℕ) → get_or w v closed ≡ get_or x v closed
   windows_one table tells v = elim (cases_Bool (get_or table v false)) [

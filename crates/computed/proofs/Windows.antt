@@ -13,13 +13,12 @@ use Rattle.task.proofs.Leading.{led_inside}
 use Rattle.window.specs.declared.layout.Lengths.{Lengths}
 use Rattle.window.specs.declared.layout.Window.{Window}
 use Rattle.window.specs.Greatest.{greatest}
-use Rattle.window.specs.Recurrences.{Ascends, Laid}
+use Rattle.window.specs.Recurrences.{Laid}
 use Rattle.window.specs.Windows.{closed, deadline_of, IsWindows, offset_of, position}
 use Rattle.window.proofs.Laying.{laid_same, laid_windows}
 use Rattle.window.proofs.Longest.{ascends, rises}
 use Rattle.window.proofs.Maxima.{greatest_same}
-use Rattle.computed.specs.Windows.{due, ends, opens, windows, windows_by, windows_of}
-use Rattle.computed.specs.Tables.{each, rising}
+use Rattle.computed.specs.Windows.{due, ends, opens, windows_by, windows_of}
 use Rattle.computed.proofs.Tables.{each_at, each_past, LooksBack, rising_at, rising_past}
 
 -- a member opens at G and is due at D; else both are 0
