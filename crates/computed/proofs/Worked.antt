@@ -20,21 +20,21 @@ use Rattle.computed.specs.Tables.{each, falling, rising, some_below}
 use Rattle.computed.proofs.Asked.{known_part_pattern, known_tasks}
 
 -- a node's list of those that it comes after, as a job has it
-pub is_among : List ℕ → ℕ → Bool
+unfoldable pub is_among : List ℕ → ℕ → Bool
 is_among [] u = false
 is_among (x ∷ xs) u = eqb x u || is_among xs u
 
-pub after : List ℕ → List Bool
+unfoldable pub after : List ℕ → List Bool
 after us = each (is_among us) 24
 
-pub node_task : ℕ → ℕ → ℕ → ℕ → Task
+unfoldable pub node_task : ℕ → ℕ → ℕ → ℕ → Task
 node_task v o l w = record { node = v; window = record { offset = o; deadline = l }; ticks = w }
 
-pub window : ℕ → ℕ → ℕ → Window
+unfoldable pub window : ℕ → ℕ → ℕ → Window
 window o l w = record { offset = o; deadline = l; ticks = w }
 
 -- 200 ticks, then an alternative to 300 or 600 ticks, then 100 ticks
-pub one_alternative : List Node
+unfoldable pub one_alternative : List Node
 one_alternative =
     SubTask 0 200 (after [])
     ∷ Alternative (after (0 ∷ []))
@@ -66,7 +66,7 @@ unfolding is_among after node_task one_alternative each rising falling some_belo
 even_1 = refl
 
 -- a conditional, of which one edge leads to an alternative, after another alternative
-pub branches : List Node
+unfoldable pub branches : List Node
 branches =
     SubTask 0 100 (after [])
     ∷ Alternative (after (0 ∷ []))
