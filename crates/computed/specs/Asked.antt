@@ -1,6 +1,8 @@
 -- What every plan of a job under a choice asks, computed.
 --   task ns ws v                  the sub-task at the node v with the windows ws
 --   tasks_below ns ws t n         those at the nodes below n that pass the test t, by rising node
+--   tasks_of ns g ws t            the sub-tasks of the graph g that pass the test t, with the windows ws
+--   tasks_by local ns d g t       the same with the windows of g, in a job with the deadline d
 --   tasks local ns d c t          in a job with the nodes ns and the deadline d, under the choice c and the slack rule local: the sub-tasks of the concrete graph whose nodes pass the test t
 --   pattern period d ns c ts      how the sub-tasks ts of such a job with the period ask for work
 --   tasks_made local j c g        the part of the tag g of the job j under the choice c

@@ -4,8 +4,11 @@
 --   led ns keep            which nodes the kept edges lead to
 --   kept ns c              the table of the edges that the choice c keeps
 --   graph_of kept members  the concrete graph of these members
+--   concrete_of ns kept    the concrete graph of a choice that keeps these edges
 --   concrete ns c          the concrete graph of the choice c
---   reached ns c           for each branch number what an arrival with it reaches
+--   reached_of ns kept b   what an arrival with the branch number b reaches, of the edges that a choice keeps
+--   all_reached ns kept    the same for each branch number
+--   reached ns c           for each branch number what an arrival with it reaches under the choice c
 use Rattle.std.specs.Prelude.{ℕ, Bool, false, not, ◌&&◌, ◌||◌, List, length, slice_index_or}
 use Rattle.task.specs.declared.node.Node.{Node}
 use Rattle.task.specs.declared.node.Numbering.TheVariants.{Branch}

@@ -1,8 +1,10 @@
 -- The lengths of the longest paths of a concrete graph, computed node by node.
---   weights m ns g       what each node of the graph adds to a path, 0 at the others
---   to g ws n            the greatest sum of weights on a path that ends at each of n nodes
---   onwards g ws n       the greatest sum of weights on a path that begins at each of them
---   lengths ns g         the lengths of the longest paths
+--   weights m ns g                          what each node of the graph adds to a path, 0 at the others
+--   to g ws n                               the greatest sum of weights on a path that ends at each of n nodes
+--   onwards g ws n                          the greatest sum of weights on a path that begins at each of them
+--   lengths_of g work heads from levels n   the lengths of the longest paths of n nodes: work is their ticks, heads and levels the sums to each node, from those onwards
+--   lengths_by g work counts n              the same of what each node adds: its ticks, and 1 at a sub-task
+--   lengths ns g                            the lengths of the longest paths
 use Rattle.std.specs.Prelude.{ℕ, ◌+◌, ◌-◌, false, cond, List, length, slice_index, slice_index_or}
 use Rattle.task.specs.declared.node.Node.{Node}
 use Rattle.task.specs.declared.tables.Concrete.{Concrete}
@@ -24,7 +26,6 @@ to g ws n = rising 0 (λ t v. slice_index ws v + greatest (λ u. leads g.edges u
 abbrev pub onwards : Concrete → List ℕ → ℕ → List ℕ
 onwards g ws n = falling 0 (λ t v. slice_index ws v + greatest (λ u. leads g.edges v u) t 24) 0 n
 
--- work: the weights; heads and levels: the sums on paths that end at each node; from: those on paths that begin at it
 abbrev pub lengths_of : Concrete → (work heads from levels : List ℕ) → ℕ → Lengths
 lengths_of g work heads from levels n = record {
   nodes = each (λ v. record { head = slice_index heads v; tail = slice_index from v - slice_index work v; level = slice_index levels v }) n;

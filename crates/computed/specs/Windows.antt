@@ -1,7 +1,10 @@
 -- The windows of a concrete graph, computed node by node.
---   opens g ends v       the largest of the ends of the predecessors of v, 0 where there is none and outside the graph
---   ends ns g L          when each node is due: a sub-task when L says, a fork when it opens; 0 outside the graph
---   windows local ns d g    the windows in a job with the deadline d, by the slack rule local
+--   opens g ends v            the largest of the ends of the predecessors of v, 0 where there is none and outside the graph
+--   due ns g L ends v         when v is due: a sub-task when L says, a fork when it opens; 0 outside the graph
+--   ends ns g L               when each node is due
+--   windows_of g ends n       the windows of n nodes that are due then
+--   windows_by local ns d g l   the windows in a job with the deadline d, by the slack rule local, of a graph with the lengths l
+--   windows local ns d g      the windows in a job with the deadline d, by the slack rule local
 use Rattle.std.specs.Prelude.{ℕ, false, cond, List, length, slice_index, slice_index_or}
 use Rattle.slack.specs.declared.rule.Position.{Position}
 use Rattle.task.specs.declared.node.Node.{Node}
