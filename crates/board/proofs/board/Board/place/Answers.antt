@@ -7,6 +7,7 @@ use Rattle.board.specs.Asked.{loads}
 use Rattle.board.proofs.Listed.{few_listed}
 use Rattle.board.proofs.Stating.{part_states}
 use Rattle.board.proofs.Steps.{all_push, all_tried, ends_here, next_below, none_next, seats_room, some_is, tag_put, tag_skip}
+use Rattle.board.specs.Residents.{jobs}
 use Rattle.few.specs.Few.{items}
 use Rattle.plan.specs.Part.{part_of}
 use Rattle.plan.specs.Pattern.{part_pattern}
@@ -28,7 +29,7 @@ tags-preserved-in_default-of g c =
 pub choices-preserved-in_default-place : goal.choices-preserved-in_default-place
 choices-preserved-in_default-place g c =
     let me = c.args.self.now in
-    let rs = items me.residents in
+    let rs = jobs me.residents in
     let ruled : Rules = record {
       tags = g.P.Roster.tags me.platform;
       supply = g.P.Supply.supply me.platform;
@@ -60,7 +61,7 @@ unwrap-requires g c =
 pub tags-preserved : goal.tags-preserved
 tags-preserved g c =
     let me = c.args.self.now in
-    let rs = items me.residents in
+    let rs = jobs me.residents in
     let ruled : Rules = record {
       tags = g.P.Roster.tags me.platform;
       supply = g.P.Supply.supply me.platform;
@@ -95,7 +96,7 @@ tags-preserved g c =
 pub loop-place-preserved : goal.loop-place-preserved
 loop-place-preserved g c =
     let me = c.args.self.now in
-    let rs = items me.residents in
+    let rs = jobs me.residents in
     let ruled : Rules = record {
       tags = g.P.Roster.tags me.platform;
       supply = g.P.Supply.supply me.platform;
@@ -116,7 +117,7 @@ loop-place-preserved g c =
 pub choices-preserved : goal.choices-preserved
 choices-preserved g c =
     let me = c.args.self.now in
-    let rs = items me.residents in
+    let rs = jobs me.residents in
     let ruled : Rules = record {
       tags = g.P.Roster.tags me.platform;
       supply = g.P.Supply.supply me.platform;
