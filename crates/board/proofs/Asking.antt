@@ -1,15 +1,15 @@
 -- The seats and the claims on an engine.
-use Rattle.std.proofs.Common.{◌≡◌, ℕ, zero, suc, ◌+◌, ◌*◌, ◌<◌, ◌≤◌, Bool, true, false, cond, List, [], ◌∷◌, ◌++◌, map, length, take, get_or, refl, sym, ap, ◌∙◌, arith, inl, inr, Bor, Result, Ok, Err}
+use Rattle.std.proofs.Common.{◌≡◌, ℕ, ◌+◌, ◌*◌, ◌<◌, ◌≤◌, Bool, true, false, cond, List, [], ◌∷◌, ◌++◌, map, length, take, get_or, refl, sym, ap, ◌∙◌, arith, inl, inr, Bor, Result, Ok, Err}
 use Rattle.std.specs.Prelude.{filter, ◌==◌, OnOk}
 use Rattle.std.specs.List.{flat_map}
 use Rattle.std.proofs.lemmas.Bool.{cases_Bool}
 use Rattle.std.proofs.lemmas.Grind.{flat_map-append}
 use Rattle.std.proofs.lemmas.List.{append-nil, append_assoc, length-take, map-append, take_more}
 use Rattle.std.proofs.lemmas.List.Concat.{flat_map-cons}
-use Rattle.std.proofs.lemmas.List.Elements.{filter-append, filter_more}
+use Rattle.std.proofs.lemmas.List.Elements.{filter-append}
 use lib.ListN.{length-map, length-append}
 use Rattle.few.specs.Few.{items}
-use Rattle.board.specs.Asked.{claims_on, seats_on}
+use Rattle.board.specs.Asked.{claims_on}
 use Rattle.claim.specs.declared.claim.Claim.{Claim}
 use Rattle.resident.specs.declared.resident.Resident.{Resident}
 use Rattle.resident.specs.declared.resident.Seat.{Seat}

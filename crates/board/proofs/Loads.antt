@@ -1,8 +1,7 @@
 -- The loads of the engines, by the claims on them.
-use Rattle.std.proofs.Common.{◌≡◌, ℕ, zero, suc, ◌+◌, ◌*◌, ◌/◌, ◌<◌, ◌≤◌, Bool, true, false, cond, List, [], ◌∷◌, ◌++◌, map, length, refl, sym, ap, ◌∙◌, arith, inl, inr, Option, Some, None}
-use Rattle.std.specs.Prelude.{filter, ◌==◌, sum_by}
-use Rattle.std.specs.List.{All, flat_map}
-use Rattle.std.proofs.lemmas.Bool.{cases_Bool}
+use Rattle.std.proofs.Common.{◌≡◌, ℕ, ◌+◌, ◌*◌, ◌/◌, ◌≤◌, Bool, true, false, cond, List, [], ◌∷◌, map, length, refl, ap, ◌∙◌, arith, Option, Some, None}
+use Rattle.std.specs.Prelude.{filter, sum_by}
+use Rattle.std.specs.List.{All}
 use Rattle.std.proofs.lemmas.List.Concat.{flat_map-cons}
 use Rattle.std.proofs.lemmas.List.Elements.{All-head, All-tail}
 use Rattle.std.proofs.lemmas.List.Sums.{sum_by-cons, sum_by-append}
@@ -12,7 +11,7 @@ use Rattle.board.specs.declared.residents.Residents.{Residents}
 use Rattle.board.specs.Residents.{jobs, listed}
 use Rattle.std.proofs.lemmas.List.{length-take}
 use Rattle.board.specs.Asked.{asked_by, asked_on, load_of, load_on}
-use Rattle.board.proofs.Asking.{is_on, kept_few, seats_few}
+use Rattle.board.proofs.Asking.{is_on, seats_few}
 use Rattle.fit.specs.Fits.{in_cycle}
 use Rattle.plan.specs.declared.plan.Plan.{Plan}
 use Rattle.plan.specs.Pattern.{part_pattern}

@@ -1,13 +1,13 @@
 -- The claims of residents state what they ask.
-use Rattle.std.proofs.Common.{◌≡◌, ℕ, Bool, true, false, cond, List, [], ◌∷◌, ◌++◌, map, refl, sym, subst, inl, inr, ◌+◌, ◌*◌, ◌≤◌, arith}
-use Rattle.std.specs.Prelude.{filter, ◌==◌, sum_by}
-use Rattle.std.specs.List.{All, flat_map}
+use Rattle.std.proofs.Common.{ℕ, List, [], ◌∷◌, ◌++◌, map, inl, inr, ◌≤◌, arith}
+use Rattle.std.specs.Prelude.{filter}
+use Rattle.std.specs.List.{All}
 use Rattle.std.proofs.lemmas.Bool.{cases_Bool}
 use Rattle.std.proofs.lemmas.List.Concat.{flat_map-cons}
 use Rattle.std.proofs.lemmas.List.Elements.{All-head, All-tail}
 use Rattle.std.proofs.lemmas.List.Sums.{sum_by-cons}
 use Rattle.few.specs.Few.{items}
-use Rattle.board.specs.Asked.{asked_by, asked_on, claims_on, seats_on}
+use Rattle.board.specs.Asked.{asked_by, asked_on, claims_on}
 use Rattle.board.proofs.Asking.{claims_of, is_on}
 use Rattle.claim.specs.declared.claim.Claim.{Claim}
 use Rattle.fit.specs.Fits.{Paced, in_cycle}

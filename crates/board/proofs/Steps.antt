@@ -1,9 +1,11 @@
 -- The steps of placing a job.
-use Rattle.std.proofs.Common.{◌≡◌, ℕ, zero, suc, ◌+◌, ◌<◌, ◌≤◌, Bool, true, false, cond, List, [], ◌∷◌, ◌++◌, map, filter, length, take, get_or, Option, Some, None, refl, sym, ap, subst, ◌∙◌, arith, inl, inr}
-use Rattle.std.specs.Prelude.{slice_get}
+use Rattle.std.proofs.Common.{◌≡◌, ℕ, ◌+◌, ◌<◌, ◌≤◌, Bool, true, cond, List, [], ◌∷◌, ◌++◌, map, filter, length, take, get_or, Some, None, Result, Ok, Err, refl, sym, ap, subst, ◌∙◌, arith, inl, inr}
+use Rattle.std.specs.Prelude.{slice_get, IfErr}
+use Rattle.std.specs.Result.{IsErrAnd}
+use Rattle.board.specs.declared.refusal.Refusal.{Refusal}
 use Rattle.std.specs.List.{All}
 use Rattle.std.proofs.lemmas.Bool.{cases_eq, cases_lt}
-use Rattle.std.proofs.lemmas.List.{append-nil, length-take, map-append}
+use Rattle.std.proofs.lemmas.List.{append-nil, append_assoc, length-take, map-append, take_more}
 use Rattle.std.proofs.lemmas.List.Elements.{All-append, All-cons, All-nil, filter_more}
 use Rattle.std.proofs.lemmas.List.FromFn.{get_or-range_with_len}
 use Rattle.std.proofs.lemmas.Option.{none-some, same_Some, slice_get-get_or, slice_get_past}
@@ -81,3 +83,16 @@ ends_here es place none = elim (cases_lt place (length es)) [
   | inl low ↦ absurd (none-some (get_or es place 0) (sym none ∙ slice_get-get_or es place 0 low))
   | inr high ↦ high
 ]
+
+-- one telling more
+pub told_more : {X A : Type 0} (f : X → A) (xs : List X) (i : ℕ) (x : X) (ts : List A) → i < length xs → x ≡ get_or xs i x → map f (take (i + 1) xs) ++ ts ≡ map f (take i xs) ++ f x ∷ ts
+told_more f xs i x ts low is =
+    ap (λ l. map f l ++ ts) (take_more xs i x low)
+    ∙ ap (λ l. l ++ ts) (map-append f (take i xs) (get_or xs i x ∷ []))
+    ∙ append_assoc (map f (take i xs)) (f (get_or xs i x) ∷ []) ts
+    ∙ ap (λ y. map f (take i xs) ++ f y ∷ ts) (sym is)
+
+-- a refusal that is handed on
+pub handed : {T : Type 0} (r : Result T Refusal) (f : Refusal) (Q : Refusal → Type 0) → IsErrAnd r (λ x. x ≡ f) → Q f → IfErr r Q
+handed (Ok t) f Q no' is = tt
+handed (Err x) f Q same is = subst Q (sym same) is

@@ -9,7 +9,7 @@
 --   CannotBePlaced rules rs j c    the choice c is not possible, or some part is stuck
 --   Places rules rs j r            r is the job j under the first possible choice that can be placed
 --   tellings r                     the tag and the engine of each part of r, by rising tag
-use Rattle.std.specs.Prelude.{◌≡◌, ℕ, ◌<◌, true, List, [], ◌∷◌, map, Option, Some, slice_get}
+use Rattle.std.specs.Prelude.{◌≡◌, ℕ, ◌<◌, true, List, [], ◌∷◌, map, Some, slice_get}
 use Rattle.std.specs.List.{All}
 use Rattle.board.specs.Asked.{asked_on, loads}
 use Rattle.engine.specs.Roster.{tag_of}

@@ -57,8 +57,12 @@ impl<P: Supply, R: SlackRule, O: EngineOrder> Board<P, R, O> {
         ensures refused { IfErr result (λ f. LoadRefused (record { tags = P.Roster.tags self.old.platform; supply = P.Supply.supply self.old.platform; local = R.SlackRule.local self.old.rule; listing = O.EngineOrder.listing self.old.order }) (jobs self.old.residents) text.now f × (self.new ≡ self.old)) }
     {
         let job = self.coming(text)?;
-        first_possible(&job).ok_or(Refusal::NoChoice)?;
-        let resident = self.place(&job).ok_or(Refusal::NoPlacement)?;
+        let Some(_) = first_possible(&job) else {
+            return Err(Refusal::NoChoice);
+        };
+        let Some(resident) = self.place(&job) else {
+            return Err(Refusal::NoPlacement);
+        };
         self.tell(&resident);
         self.residents.add(&resident).unwrap();
         Ok(job.number)

@@ -1,11 +1,10 @@
-use Rattle.std.proofs.Common.{rules, ◌≡◌, ◌≤◌, ◌+◌, ◌<◌, ◌∷◌, ◌++◌, [], ℕ, List, map, length, take, cond, get_or, sym, ap, subst, ◌∙◌, refl, arith, false, true}
+use Rattle.std.proofs.Common.{rules, ◌≡◌, ◌≤◌, ◌∷◌, ◌++◌, [], map, length, take, get_or, ap, ◌∙◌, arith, false, true}
 use lib.ListN.{length-map, length-append}
-use Rattle.std.proofs.lemmas.List.{append-nil, length-take, map-append}
+use Rattle.std.proofs.lemmas.List.{length-take}
 use Rattle.board.specs.Asked.{claims_on}
 use Rattle.board.proofs.Asking.{all_few, borrowed_put, claims_few, claims_of, is_on, seat_off, seat_on}
 use Rattle.few.specs.Few.{items}
 use Rattle.claim.specs.declared.claim.Claim.{Claim}
-use Rattle.resident.specs.declared.resident.Resident.{Resident}
 use Rattle.board.proofs.asked.claims_on.Goals as goal
 use Rattle.board.proofs.asked.claims_on.Goals.{then-seat-engine, else-seat-engine}
 

@@ -1,7 +1,6 @@
-use Rattle.std.proofs.Common.{◌≡◌, ℕ, List, map, rules, arith, ◌∙◌}
-use Rattle.std.specs.Prelude.{filter, sum_by}
+use Rattle.std.proofs.Common.{rules, arith, ◌∙◌}
+use Rattle.std.specs.Prelude.{filter}
 use borrow.Author.Tests.{tests}
-use Rattle.std.proofs.lemmas.Bool.Decides.{nat_tests}
 use Rattle.std.proofs.lemmas.Iterator.{YieldsList-from_slice, YieldsList-from_map}
 use Rattle.std.proofs.lemmas.Iterator.Consumers.{YieldsList-at, YieldsList-from_filter, fits_by_from_yields_list, sum_by_from_yields_List}
 use Rattle.few.specs.Few.{items}

@@ -1,9 +1,8 @@
-use Rattle.std.proofs.Common.{◌≡◌, ℕ, List, map, length, rules, arith, ◌∙◌}
+use Rattle.std.proofs.Common.{◌≡◌, ℕ, rules, arith, ◌∙◌}
 use Rattle.std.specs.Prelude.{sum_by}
 use Rattle.std.proofs.lemmas.Iterator.{YieldsList-from_slice, YieldsList-from_map}
 use Rattle.std.proofs.lemmas.Iterator.Consumers.{YieldsList-at, fits_by_from_yields_list, sum_by_from_yields_List}
 use Rattle.board.specs.Residents.{jobs}
-use Rattle.few.specs.Few.{items}
 use Rattle.resident.specs.declared.resident.Resident.{Resident}
 use Rattle.board.specs.Asked.{asked_by, load_of, load_on}
 use Rattle.board.proofs.Loads.{board_light, by_board, jobs_few}

@@ -1,9 +1,7 @@
 use Rattle.std.proofs.Common.{rules, ◌≡◌, ℕ, ◌<◌, arith, sym, ◌∙◌}
-use Rattle.std.specs.List.{range_with_len}
 use Rattle.std.proofs.lemmas.List.{same_lists}
 use Rattle.std.proofs.lemmas.List.FromFn.{get_or-map-range_with_len, length-map-range_with_len}
 use Rattle.board.specs.Residents.{jobs}
-use Rattle.few.specs.Few.{items}
 use Rattle.few.proofs.Filled.{filled}
 use Rattle.board.specs.Asked.{load_on, loads}
 use Rattle.board.proofs.asked.loads.Goals as goal

@@ -1,12 +1,9 @@
-use Rattle.std.proofs.Common.{◌≡◌, ℕ, List, ◌∷◌, map, rules, sym, subst, ◌∙◌, ap}
+use Rattle.std.proofs.Common.{◌≡◌, ◌∷◌, map, rules, sym, subst}
 use Rattle.board.specs.Residents.{jobs}
-use Rattle.few.specs.Few.{items}
 use Rattle.board.specs.Asked.{asked_on, claims_on}
 use Rattle.board.proofs.Stating.{first_paced, stated_on}
-use Rattle.claim.specs.declared.claim.Claim.{Claim}
 use Rattle.fit.specs.Fits.{Paced}
 use Rattle.fit.specs.Stated.{Stated}
-use Rattle.theory.specs.Pattern.{Pattern}
 use Rattle.board.proofs.board.Board.fits.Goals as goal
 
 pub returns-clause-fits : goal.returns-clause-fits
