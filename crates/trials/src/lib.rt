@@ -2,8 +2,6 @@
 #![tactic(auto)]
 
 #[cfg(test)]
-mod answer_cases;
-#[cfg(test)]
 mod engine_tests;
 #[cfg(test)]
 mod graph_cases;
@@ -11,14 +9,16 @@ mod graph_cases;
 mod job_cases;
 #[cfg(test)]
 mod platform_cases;
+#[cfg(test)]
+mod seat_cases;
 
 #[cfg(test)]
 mod tests {
-    use crate::answer_cases::ANSWERS;
     use crate::graph_cases::{JOB_FORKS, JOBS};
     use crate::job_cases::{JOB_FORMS, JOB_LINES, JOB_RANGES};
     use crate::platform_cases::PLATFORMS;
-    use listing::answer::answer;
+    use crate::seat_cases::SEATS;
+    use listing::listing::listing;
     use slack::even::Even;
     use slack::proportional::Proportional;
     use slack::rule::SlackRule;
@@ -146,9 +146,9 @@ mod tests {
     }
 
     #[test]
-    fn answers(rt: HostRuntime) -> Result<(), Fail> {
-        for (i, (text, expected)) in ANSWERS.iter().enumerate() {
-            let lines = answer(rt.alloc(), text)?;
+    fn seats(rt: HostRuntime) -> Result<(), Fail> {
+        for (i, (input, expected)) in SEATS.iter().enumerate() {
+            let lines = listing(rt.alloc(), input)?;
             assert_eq!(rt; lines.as_str(), *expected, "{}", i);
         }
         Ok(())
