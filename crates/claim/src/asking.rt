@@ -1,5 +1,5 @@
 //! The demand that a claim states.
-ghost use Rattle.std.specs.Prelude.{◌≡◌, ℕ, ◌+◌, ◌-◌, ◌*◌, ◌<◌, ◌≤◌, ◌^◌, length, slice_index};
+ghost use Rattle.std.specs.Prelude.{◌≡◌, ℕ, ◌+◌, ◌-◌, ◌*◌, ◌/◌, ◌<◌, ◌≤◌, ◌^◌, length, slice_index};
 ghost use Rattle.claim.specs.Asking.{ended, given, reach_of, step};
 ghost use Rattle.claim.specs.Claim.{Claims};
 ghost use Rattle.few.specs.Few.{items};
@@ -59,6 +59,20 @@ impl Claim {
         ended
     }
 
+    /// How many whole arrivals come up to so long after the first of them is due. `near` is tried first, since a division takes long.
+    fn wholes(&self, past: u64, near: u64) -> u64
+        ensures { result ≡ past / self.now.period }
+    {
+        let period = u64::from(self.period);
+        let wholes = near.min(u64::from(u32::MAX));
+        let begin = wholes * period;
+        if begin <= past && past - begin < period {
+            wholes
+        } else {
+            past / period
+        }
+    }
+
     /// What falls due up to `y`; `near` is such an answer for a moment that is not far.
     fn reach(&self, y: u64, near: Reach) -> Reach
         requires { y < 2 ^ 40 }
@@ -66,7 +80,7 @@ impl Claim {
         ensures few { result.wholes < 2 ^ 40 }
     {
         let period = u64::from(self.period);
-        let wholes = y.saturating_sub(u64::from(self.deadline)) / period;
+        let wholes = self.wholes(y.saturating_sub(u64::from(self.deadline)), near.wholes);
         let rest = y.saturating_sub((wholes + 1) * period);
         Reach {
             first: self.ended(y, near.first),
