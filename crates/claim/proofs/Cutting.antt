@@ -2,13 +2,15 @@
 use Rattle.std.proofs.Common.{◌≡◌, ℕ, ◌+◌, ◌≤◌, max, Bool, false, List, [], ◌∷◌, ◌++◌, map, length, refl, ap, sym, ◌∙◌, arith, inl, inr}
 use Rattle.std.specs.Prelude.{filter, slice_index_or}
 use Rattle.std.specs.List.{All, AllByRecursion, AllZip}
+use Rattle.std.specs.List.Sorted.{IsPermutation}
 use Rattle.std.proofs.lemmas.Bool.{cases_Bool}
 use Rattle.std.proofs.lemmas.List.Elements.{All-nil, All-cons}
 use Rattle.few.specs.Few.{items}
 use Rattle.claim.specs.declared.claim.Claim.{Claim}
 use Rattle.claim.specs.declared.claim.Cut.{Cut}
-use Rattle.claim.specs.Claim.{Claims, Cuts, stair}
+use Rattle.claim.specs.Claim.{Claims, Cuts}
 use Rattle.claim.specs.Making.{CutOf, CutsOf, most_within}
+use Rattle.claim.proofs.Reaching.{few_ends}
 use Rattle.claim.proofs.Stairs.{end_of, greatest_map, stair_is}
 use Rattle.plan.specs.declared.part.Task.{Task}
 use Rattle.plan.specs.declared.plan.Plan.{Plan}
@@ -79,21 +81,20 @@ module _ (p : Plan) (ts : List Task) (formed : WellFormed (pattern_of p ts)) (fi
   quick_same : (n u : ℕ) → at_cut_quick asked n u ≡ at_cut asked n u
   quick_same n u = ap (λ v. best asked u (u + n) + v) (sym ((demand_is_quick asked formed).0 (u + n)))
 
-  module _ (c : Claim) (ends : items c.ends ≡ map end_of ts) where
-    cut_states : (u : ℕ) (k : Cut) → CutOf ts rows u k → Cuts asked c k
+  module _ (c : Claim) (ends : IsPermutation (map end_of ts) (items c.ends)) where
+    cut_states : (u : ℕ) (k : Cut) → CutOf ts rows (items c.ends) u k → Cuts asked c k
     cut_states u k is y =
-        ap (λ es. stair es k.most y) ends
-        ∙ stair_is ts rows u k.most is.all_beside is.beside y
+        stair_is ts rows u (items c.ends) k.most ends (omega (arith, few_ends c, k.placed)) is.beside y
         ∙ sym (best_is u y)
         ∙ ap (λ v. best asked v y) (sym is.its_moment)
 
-    module _ (cuts : CutsOf ts rows (items c.cuts)) (n : ℕ) where
+    module _ (cuts : CutsOf ts rows (items c.ends) (items c.cuts)) (n : ℕ) where
       abbrev at_cuts : ℕ
       at_cuts = greatest (λ k. at_cut asked n k.«from») (items c.cuts)
 
       at_offsets : at_cuts ≡ greatest (λ t. at_cut asked n t.window.offset) ts
       at_offsets =
-          zip_greatest (λ t k. CutOf ts rows t.window.offset k) (λ t. at_cut asked n t.window.offset) (λ k. at_cut asked n k.«from»)
+          zip_greatest (λ t k. CutOf ts rows (items c.ends) t.window.offset k) (λ t. at_cut asked n t.window.offset) (λ k. at_cut asked n k.«from»)
           (λ t k is. ap (at_cut asked n) is.its_moment) ts (items c.cuts) cuts
 
       branch_low : (row : List Bool) → greatest (λ w. at_cut_quick asked n w.offset) (branch_of ts row) ≤ greatest (λ t. at_cut asked n t.window.offset) ts
@@ -114,13 +115,13 @@ module _ (p : Plan) (ts : List Task) (formed : WellFormed (pattern_of p ts)) (fi
           omega (arith, (demand_is_quick asked formed).1 n, quick_same n 0, at_offsets)
 
     pub claims_made : c.period ≡ p.job.period → c.deadline ≡ p.job.deadline → c.whole ≡ most_within ts rows 0 p.job.deadline
-        → CutOf ts rows 0 c.arrival → CutsOf ts rows (items c.cuts) → Claims asked c
+        → CutOf ts rows (items c.ends) 0 c.arrival → CutsOf ts rows (items c.ends) (items c.cuts) → Claims asked c
     claims_made period deadline whole arrival cuts = record {
       its_period = period;
       its_deadline = deadline;
       its_whole = whole ∙ sym (best_is 0 p.job.deadline);
       at_arrival = arrival.its_moment;
       from_arrival = cut_states 0 c.arrival arrival;
-      from_cuts = zip_all (λ t k. CutOf ts rows t.window.offset k) (Cuts asked c) (λ t k is. cut_states t.window.offset k is) ts (items c.cuts) cuts;
+      from_cuts = zip_all (λ t k. CutOf ts rows (items c.ends) t.window.offset k) (Cuts asked c) (λ t k is. cut_states t.window.offset k is) ts (items c.cuts) cuts;
       enough = λ n. enough cuts n;
     }

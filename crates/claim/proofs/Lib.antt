@@ -3,3 +3,4 @@ pub mod Giving
 pub mod Within
 pub mod Stairs
 pub mod Cutting
+pub mod Reaching

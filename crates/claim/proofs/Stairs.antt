@@ -1,10 +1,12 @@
 -- The greatest over the ends up to y of what one arrival asks by them is what it asks by y.
-use Rattle.std.proofs.Common.{◌≡◌, ℕ, suc, ◌+◌, ◌<◌, ◌≤◌, Bool, true, false, cond, List, [], ◌∷◌, map, length, refl, ap, ◌∙◌, ◌⊎◌, arith, inl, inr}
+use Rattle.std.proofs.Common.{◌≡◌, ℕ, suc, ◌+◌, ◌<◌, ◌≤◌, Bool, true, false, cond, List, [], ◌∷◌, map, length, refl, sym, ap, ◌∙◌, ◌⊎◌, arith, inl, inr}
 use Rattle.std.specs.Prelude.{filter, nat_le, slice_index, slice_index_or}
 use Rattle.std.specs.List.{All}
+use Rattle.std.specs.List.Sorted.{IsPermutation}
 use Rattle.std.proofs.lemmas.Bool.{cases_Bool, cases_lt, leb-true, leb-false}
 use Rattle.std.proofs.lemmas.Bool.Decides.{nat_tests}
 use Rattle.std.proofs.lemmas.List.Elements.{All-nil, All-cons, All-head, All-tail}
+use Rattle.std.proofs.lemmas.List.Sorted.{All-permutation, IsPermutation-sym}
 use Rattle.claim.specs.Claim.{stair}
 use Rattle.claim.specs.Making.{most_within}
 use Rattle.claim.proofs.Within.{branch_cond}
@@ -75,7 +77,7 @@ module _ (ts : List Task) (rows : List (List Bool)) (u : ℕ) where
   abbrev most : ℕ → ℕ
   most y = most_within ts rows u y
 
-  most_up : (y z : ℕ) → y ≤ z → most y ≤ most z
+  pub most_up : (y z : ℕ) → y ≤ z → most y ≤ most z
   most_up y z up = greatest_up _ _ (λ row. inner_mono u u y z (branch_of ts row) (omega arith) up) rows
 
   most_stop : (y e : ℕ) → All (Stops y e) ts → most y ≤ most e
@@ -129,18 +131,37 @@ module _ (ts : List Task) (rows : List (List Bool)) (u : ℕ) where
     | inr some ↦ let (e, low, all, at) = some in omega (arith, most_stop y e all)
   ]
 
-zip_beside : (ts : List Task) (most : List ℕ) (f : Task → ℕ) → length ts ≤ length most → ((i : ℕ) (d : Task) → i < length ts → slice_index most i ≡ f (slice_index_or ts i d))
-    → (y : ℕ) → stair (map end_of ts) most y ≡ greatest (λ t. cond (nat_le (end_of t) y) (f t) 0) ts
-zip_beside [] most f long each y = refl
-zip_beside (t ∷ ts) [] f long each y = absurd (omega arith)
-zip_beside (t ∷ ts) (m ∷ most) f long each y =
-    let rec = zip_beside ts most f (omega arith) (λ i d below. each (suc i) d (omega arith)) y in
-    let here : m ≡ f t = each 0 t (omega arith) in
-    let same = ap (λ (n : ℕ). cond (nat_le (end_of t) y) n 0) here in
+-- the greatest does not go by the order
+greatest_within : {X : Type 0} (f : X → ℕ) (m : ℕ) (xs : List X) → All (λ x. f x ≤ m) xs → greatest f xs ≤ m
+greatest_within f m [] all = omega arith
+greatest_within f m (x ∷ xs) all =
+    let rec = greatest_within f m xs (All-tail (λ y. f y ≤ m) x xs all) in
+    omega (arith, All-head (λ y. f y ≤ m) x xs all)
+
+each_within : {X : Type 0} (f : X → ℕ) (m : ℕ) (xs : List X) → greatest f xs ≤ m → All (λ x. f x ≤ m) xs
+each_within f m [] low = All-nil (λ x. f x ≤ m)
+each_within f m (x ∷ xs) low = All-cons (λ y. f y ≤ m) x xs (omega arith) (each_within f m xs (omega arith))
+
+greatest_moved : {X : Type 0} (f : X → ℕ) (xs ys : List X) → IsPermutation xs ys → greatest f xs ≡ greatest f ys
+greatest_moved f xs ys same =
+    let up = greatest_within f (greatest f ys) xs (All-permutation (λ x. f x ≤ greatest f ys) ys xs (IsPermutation-sym xs ys same) (each_within f (greatest f ys) ys (omega arith))) in
+    let down = greatest_within f (greatest f xs) ys (All-permutation (λ x. f x ≤ greatest f xs) xs ys same (each_within f (greatest f xs) xs (omega arith))) in
     omega arith
 
--- beside the ends of sub-tasks, what one arrival asks by them
-pub stair_is : (ts : List Task) (rows : List (List Bool)) (u : ℕ) (most : List ℕ) → length ts ≤ length most
-    → ((i : ℕ) (d : Task) → i < length ts → slice_index most i ≡ most_within ts rows u (end_of (slice_index_or ts i d)))
-    → (y : ℕ) → stair (map end_of ts) most y ≡ most_within ts rows u y
-stair_is ts rows u most long each y = zip_beside ts most (λ t. most_within ts rows u (end_of t)) long each y ∙ due_is ts rows u y
+zip_beside : (es most : List ℕ) (f : ℕ → ℕ) → length es ≤ length most → ((i : ℕ) → i < length es → slice_index most i ≡ f (slice_index es i))
+    → (y : ℕ) → stair es most y ≡ greatest (λ e. cond (nat_le e y) (f e) 0) es
+zip_beside [] most f long each y = refl
+zip_beside (e ∷ es) [] f long each y = absurd (omega arith)
+zip_beside (e ∷ es) (m ∷ most) f long each y =
+    let rec = zip_beside es most f (omega arith) (λ i below. each (suc i) (omega arith)) y in
+    let here : m ≡ f e = each 0 (omega arith) in
+    let same = ap (λ (n : ℕ). cond (nat_le e y) n 0) here in
+    omega arith
+
+-- beside the ends of sub-tasks, in any order, what one arrival asks by them
+pub stair_is : (ts : List Task) (rows : List (List Bool)) (u : ℕ) (es most : List ℕ) → IsPermutation (map end_of ts) es → length es ≤ length most
+    → ((i : ℕ) → i < length es → slice_index most i ≡ most_within ts rows u (slice_index es i))
+    → (y : ℕ) → stair es most y ≡ most_within ts rows u y
+stair_is ts rows u es most same long each y =
+    let f : ℕ → ℕ = λ e. cond (nat_le e y) (most_within ts rows u e) 0 in
+    zip_beside es most (most_within ts rows u) long each y ∙ sym (greatest_moved f (map end_of ts) es same) ∙ greatest_map f end_of ts ∙ due_is ts rows u y

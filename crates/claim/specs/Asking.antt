@@ -3,8 +3,12 @@
 --   given_later c y     the most that the arrivals after one ask up to y after it
 --   given_at c n k      the most in n ticks from the moment of the cut k
 --   given c n           the most in n ticks
-use Rattle.std.specs.Prelude.{ℕ, ◌+◌, ◌-◌, ◌*◌, ◌/◌, max}
+--   ended es y          how many of the ends es are at most y
+--   step most n         the n-th of the values most, and 0 before the first
+--   reach_of c y        the ends that an arrival has passed up to y after it, the whole ones after it, and the ends that the last one has passed
+use Rattle.std.specs.Prelude.{ℕ, ◌+◌, ◌-◌, ◌*◌, ◌/◌, max, List, ◌∷◌, count_by, nat_le, slice_index_or}
 use Rattle.few.specs.Few.{items}
+use Rattle.claim.specs.declared.asking.Reach.{Reach}
 use Rattle.claim.specs.declared.claim.Claim.{Claim}
 use Rattle.claim.specs.declared.claim.Cut.{Cut}
 use Rattle.claim.specs.Claim.{by_end}
@@ -21,3 +25,16 @@ given_at c n k = by_end c k (k.«from» + n) + given_later c (k.«from» + n)
 
 abbrev pub given : Claim → ℕ → ℕ
 given c n = max (given_at c n c.arrival) (greatest (given_at c n) (items c.cuts))
+
+abbrev pub ended : List ℕ → ℕ → ℕ
+ended es y = count_by (λ e. nat_le e y) es
+
+abbrev pub step : List ℕ → ℕ → ℕ
+step most n = slice_index_or (0 ∷ most) n 0
+
+abbrev pub reach_of : Claim → ℕ → Reach
+reach_of c y = record {
+  first = ended (items c.ends) y;
+  wholes = whole_ones c y;
+  last = ended (items c.ends) (y - (whole_ones c y + 1) * c.period);
+}

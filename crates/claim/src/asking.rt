@@ -1,45 +1,102 @@
 //! The demand that a claim states.
-ghost use Rattle.std.specs.Prelude.{◌≡◌, ℕ, ◌<◌, ◌≤◌, ◌^◌};
-ghost use Rattle.claim.specs.Asking.{given, given_at, given_later};
-ghost use Rattle.claim.specs.Claim.{Claims, by_end};
+ghost use Rattle.std.specs.Prelude.{◌≡◌, ℕ, ◌+◌, ◌-◌, ◌*◌, ◌/◌, ◌<◌, ◌≤◌, ◌^◌, length, slice_index};
+ghost use Rattle.claim.specs.Asking.{ended, given, reach_of, step};
+ghost use Rattle.claim.specs.Claim.{Claims};
+ghost use Rattle.few.specs.Few.{items};
 ghost use Rattle.theory.specs.Demand.{demand};
 ghost use Rattle.theory.specs.Pattern.{Pattern, WellFormed};
 
 use crate::claim::{Claim, Cut};
-use task::node::Ticks;
+use task::node::{NODES, Ticks};
+
+/// What falls due up to a moment after an arrival: the ends that the arrival has passed by then, the whole arrivals after it, and the ends that the last arrival has passed.
+#[derive(Debug, Clone, Copy, PartialEq, Eq)]
+pub(crate) struct Reach {
+    pub(crate) first: usize,
+    pub(crate) wholes: u64,
+    pub(crate) last: usize,
+}
+
+/// Up to an arrival itself.
+const NOTHING: Reach = Reach {
+    first: 0,
+    wholes: 0,
+    last: 0,
+};
+
+/// The most beside the last of so many ends.
+fn step(most: &[Ticks; NODES], ended: usize) -> Ticks
+    ensures { result ≡ step most.now ended }
+{
+    ended
+        .checked_sub(1)
+        .and_then(|last| most.get(last))
+        .map_or(0, |ticks| *ticks)
+}
 
 impl Claim {
-    /// The most that falls due by `y`, of what the cut looks at.
-    fn by_end(&self, cut: &Cut, y: u64) -> Ticks
-        ensures { result ≡ by_end self.now cut.now y }
+    /// Where the search for ends up to `y` can begin: at `near`, if all before it are.
+    fn begin(&self, y: u64, near: usize) -> usize
+        ensures few { result ≤ length (items self.now.ends) }
+        ensures passed { 0 < result → slice_index (items self.now.ends) (result - 1) ≤ y }
     {
-        self.ends
-            .iter()
-            .zip(&cut.most)
-            .fold(0, |most, (end, ticks)| {
-                let due = if u64::from(*end) <= y { *ticks } else { 0 };
-                due.max(most)
-            })
+        // Ends rise, so the one before it speaks for all.
+        match near.checked_sub(1).and_then(|last| self.ends.get(last)) {
+            Some(end) if u64::from(*end) <= y => near,
+            _ => 0,
+        }
     }
 
-    /// The most that the arrivals after one ask up to `y` after it: all but one of them are whole.
-    fn later(&self, y: u64) -> u64
-        requires { y < 2 ^ 40 }
-        ensures given { result ≡ given_later self.now y }
-        ensures small { result < 2 ^ 60 }
+    /// How many ends are at most `y`. The search begins at `near`: the moments of a claim mostly rise, each by a little.
+    fn ended(&self, y: u64, near: usize) -> usize
+        ensures { result ≡ ended (items self.now.ends) y }
+    {
+        let ends = self.ends.as_slice();
+        let mut ended = self.begin(y, near);
+        while ended < ends.len() && u64::from(ends[ended]) <= y {
+            ended += 1;
+        }
+        ended
+    }
+
+    /// How many whole arrivals come up to so long after the first of them is due. `near` is tried first, since a division takes long.
+    fn wholes(&self, past: u64, near: u64) -> u64
+        ensures { result ≡ past / self.now.period }
     {
         let period = u64::from(self.period);
-        let wholes = y.saturating_sub(u64::from(self.deadline)) / period;
-        let rest = y.saturating_sub((wholes + 1) * period);
-        wholes * u64::from(self.whole) + u64::from(self.by_end(&self.arrival, rest))
+        let wholes = near.min(u64::from(u32::MAX));
+        let begin = wholes * period;
+        if begin <= past && past - begin < period {
+            wholes
+        } else {
+            past / period
+        }
     }
 
-    /// The most in so many ticks from the moment of the cut.
-    fn at(&self, cut: &Cut, ticks: u32) -> u64
-        ensures { result ≡ given_at self.now ticks cut.now }
+    /// What falls due up to `y`; `near` is such an answer for a moment that is not far.
+    fn reach(&self, y: u64, near: Reach) -> Reach
+        requires { y < 2 ^ 40 }
+        ensures is { result ≡ reach_of self.now y }
+        ensures few { result.wholes < 2 ^ 40 }
     {
-        let y = u64::from(cut.from) + u64::from(ticks);
-        u64::from(self.by_end(cut, y)) + self.later(y)
+        let period = u64::from(self.period);
+        let wholes = self.wholes(y.saturating_sub(u64::from(self.deadline)), near.wholes);
+        let rest = y.saturating_sub((wholes + 1) * period);
+        Reach {
+            first: self.ended(y, near.first),
+            wholes,
+            last: self.ended(rest, near.last),
+        }
+    }
+
+    /// The ticks of that, where the first arrival is looked at from a cut on.
+    fn due(&self, cut: &Cut, reach: Reach) -> u64
+        requires { reach.wholes < 2 ^ 40 }
+        ensures { result ≡ step cut.now.most reach.first + (reach.wholes * self.now.whole + step self.now.arrival.most reach.last) }
+    {
+        let first = u64::from(step(&cut.most, reach.first));
+        let last = u64::from(step(&self.arrival.most, reach.last));
+        first + (reach.wholes * u64::from(self.whole) + last)
     }
 
     /// The most that can fall due within so many ticks.
@@ -47,9 +104,12 @@ impl Claim {
         ensures given { result ≡ given self.now ticks }
         ensures demand { (p : Pattern) → WellFormed p → Claims p self.now → result ≡ demand p ticks }
     {
-        let arrival = self.at(&self.arrival, ticks);
-        self.cuts
-            .iter()
-            .fold(arrival, |most, cut| self.at(cut, ticks).max(most))
+        let mut reach = self.reach(u64::from(self.arrival.from) + u64::from(ticks), NOTHING);
+        let mut most = self.due(&self.arrival, reach);
+        for cut in self.cuts.iter() {
+            reach = self.reach(u64::from(cut.from) + u64::from(ticks), reach);
+            most = self.due(cut, reach).max(most);
+        }
+        most
     }
 }

@@ -1,5 +1,7 @@
 //! What a part asks of its engine.
-ghost use Rattle.std.specs.Prelude.{◌≡◌, ◌≤◌};
+ghost use Rattle.std.specs.Prelude.{◌≡◌, ◌≤◌, length};
+ghost use Rattle.std.specs.List.Sorted.{IsNonDecreasing};
+ghost use Rattle.few.specs.Few.{items};
 
 use few::few::Few;
 use task::node::{NODES, Ticks};
@@ -10,9 +12,11 @@ pub struct Cut {
     pub from: Ticks,
     // As many places as the claim has ends are read, so a length of its own would say the same twice.
     pub most: [Ticks; NODES],
+    ghost placed: { length most ≡ 24 },
+    ghost rising: { IsNonDecreasing most },
 }
 
-/// What a part asks: the ends of its sub-tasks' windows, a cut at the arrival, and one at the offset of each of them.
+/// What a part asks: the ends of its sub-tasks' windows, rising, a cut at the arrival, and one at the offset of each of them.
 #[derive(Debug, Clone, Copy, PartialEq, Eq)]
 pub struct Claim {
     pub period: Ticks,
@@ -24,4 +28,5 @@ pub struct Claim {
     pub cuts: Few<Cut, NODES>,
     ghost some: { 1 ≤ period },
     ghost light: { whole ≤ 345600 },
+    ghost sorted: { IsNonDecreasing (items ends) },
 }

@@ -1,5 +1,6 @@
 //! Making the claim of a part.
-ghost use Rattle.std.specs.Prelude.{◌≡◌, ◌≤◌, false, [], length, map, slice_index_or, MatchOption};
+ghost use Rattle.std.specs.Prelude.{◌≡◌, ◌<◌, ◌≤◌, false, [], length, map, slice_index, slice_index_or, MatchOption};
+ghost use Rattle.std.specs.List.Sorted.{IsNonDecreasing, IsPermutation};
 ghost use Rattle.claim.specs.Claim.{Claims};
 ghost use Rattle.claim.specs.Making.{CutOf, CutsOf, most_within};
 ghost use Rattle.few.specs.Few.{items};
@@ -13,12 +14,6 @@ use plan::part::{Part, Task};
 use plan::plan::Plan;
 use std::array;
 use task::node::{NODES, Ticks};
-
-/// What fills the places of a list of cuts after the last one.
-const BLANK: Cut = Cut {
-    from: 0,
-    most: [0; NODES],
-};
 
 /// Whether the row says that the sub-task is reached.
 fn is_reached(row: &[bool; NODES], task: &Task) -> bool
@@ -50,39 +45,52 @@ fn most_within(part: &Part, rows: &[[bool; NODES]], from: Ticks, by: Ticks) -> T
         .fold(0, |most, row| within(part, row, from, by).max(most))
 }
 
-/// The cut at a moment after an arrival.
-fn cut(part: &Part, rows: &[[bool; NODES]], from: Ticks) -> Cut
-    ensures { CutOf (tasks_in part.now) rows.now from result }
+/// What stands at a place of the cut: what one arrival asks by the end of that place.
+fn beside(part: &Part, rows: &[[bool; NODES]], ends: &[Ticks], from: Ticks, place: usize) -> Ticks
+    ensures most { place < length ends.now → result ≡ most_within (tasks_in part.now) rows.now from (slice_index ends.now place) }
+    ensures light { place < length ends.now → result ≤ 345600 }
+    ensures past { length ends.now ≤ place → result ≡ 4294967295 }
+{
+    // What stands past the ends is never read; there it is great, so that the places rise.
+    ends.get(place)
+        .map_or(Ticks::MAX, |end| most_within(part, rows, from, *end))
+}
+
+/// The cut at a moment after an arrival, for these ends.
+fn cut(part: &Part, rows: &[[bool; NODES]], ends: &[Ticks], from: Ticks) -> Cut
+    requires few { length ends.now ≤ 24 }
+    requires rising { IsNonDecreasing ends.now }
+    ensures { CutOf (tasks_in part.now) rows.now ends.now from result }
 {
     Cut {
         from,
-        most: array::from_fn(|k| {
-            part.tasks.get(k).map_or(
-                0,
-                |task| most_within(part, rows, from, task.window.deadline),
-            )
-        }),
+        most: array::from_fn(|place| beside(part, rows, ends, from, place)),
     }
 }
 
-/// The ends of the sub-tasks' windows.
+/// The ends of the sub-tasks' windows, rising.
 fn ends(part: &Part) -> Few<Ticks, NODES>
-    ensures { items result ≡ map (λ t. t.window.deadline) (tasks_in part.now) }
+    ensures rising { IsNonDecreasing (items result) }
+    ensures same { IsPermutation (map (λ t. t.window.deadline) (tasks_in part.now)) (items result) }
 {
     let mut ends = Few::new(0);
     for task in part.tasks.iter() {
         ends.push(task.window.deadline).unwrap();
     }
+    ends.sort();
     ends
 }
 
-/// The cuts at the sub-tasks' offsets.
-fn cuts(part: &Part, rows: &[[bool; NODES]]) -> Few<Cut, NODES>
-    ensures { CutsOf (tasks_in part.now) rows.now (items result) }
+/// The cuts at the sub-tasks' offsets, for these ends; the blank fills the places after the last one.
+fn cuts(part: &Part, rows: &[[bool; NODES]], ends: &[Ticks], blank: Cut) -> Few<Cut, NODES>
+    requires few { length ends.now ≤ 24 }
+    requires rising { IsNonDecreasing ends.now }
+    ensures { CutsOf (tasks_in part.now) rows.now ends.now (items result) }
 {
-    let mut cuts = Few::new(BLANK);
+    let mut cuts = Few::new(blank);
     for task in part.tasks.iter() {
-        cuts.push(cut(part, rows, task.window.offset)).unwrap();
+        cuts.push(cut(part, rows, ends, task.window.offset))
+            .unwrap();
     }
     cuts
 }
@@ -97,13 +105,15 @@ impl Claim {
             return None;
         }
         let rows = plan.reached.as_slice();
+        let ends = ends(&part);
+        let arrival = cut(&part, rows, ends.as_slice(), 0);
         Some(Claim {
             period: plan.job.period,
             deadline: plan.job.deadline,
             whole: most_within(&part, rows, 0, plan.job.deadline),
-            ends: ends(&part),
-            arrival: cut(&part, rows, 0),
-            cuts: cuts(&part, rows),
+            ends,
+            arrival,
+            cuts: cuts(&part, rows, ends.as_slice(), arrival),
         })
     }
 }

@@ -1,3 +1,4 @@
+pub mod Multiples
 pub mod Pacing
 pub mod Serving
 pub mod Spending

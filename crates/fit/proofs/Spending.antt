@@ -9,15 +9,15 @@ use Rattle.fit.specs.Fits.{given_of_all}
 abbrev pub shown : List (Bor Claim) → List Claim
 shown bs = map (λ b. b.now) bs
 
-module _ (bs : List (Bor Claim)) (n i : ℕ) (b : Bor Claim) (below : i < length bs) (is : b ≡ get_or bs i b) where
-  there : i < length (shown bs)
+module _ (bs : List (Bor Claim)) (i : ℕ) (b : Bor Claim) (below : i < length bs) (is : b ≡ get_or bs i b) where
+  pub there : i < length (shown bs)
   there = omega (arith, length-map bs (λ (x : Bor Claim). x.now))
 
-  at_place : get_or (shown bs) i b.now ≡ b.now
+  pub at_place : get_or (shown bs) i b.now ≡ b.now
   at_place = get_or-map (λ (x : Bor Claim). x.now) bs i b b.now below ∙ ap (λ (x : Bor Claim). x.now) (sym is)
 
-  pub with_next : given_of_all (take (i + 1) (shown bs)) n ≡ given_of_all (take i (shown bs)) n + given b.now n
-  with_next = omega (arith, sum_by_more (λ c. given c n) (shown bs) i b.now there, ap (λ (c : Claim). given c n) at_place)
+  pub with_next : (n : ℕ) → given_of_all (take (i + 1) (shown bs)) n ≡ given_of_all (take i (shown bs)) n + given b.now n
+  with_next n = omega (arith, sum_by_more (λ c. given c n) (shown bs) i b.now there, ap (λ (c : Claim). given c n) at_place)
 
-  pub next_within : given_of_all (take i (shown bs)) n + given b.now n ≤ given_of_all (shown bs) n
-  next_within = omega (arith, sum_by_more_le (λ c. given c n) (shown bs) i b.now there, ap (λ (c : Claim). given c n) at_place)
+  pub next_within : (n : ℕ) → given_of_all (take i (shown bs)) n + given b.now n ≤ given_of_all (shown bs) n
+  next_within n = omega (arith, sum_by_more_le (λ c. given c n) (shown bs) i b.now there, ap (λ (c : Claim). given c n) at_place)

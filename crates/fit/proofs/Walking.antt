@@ -1,12 +1,13 @@
 -- What the walk down the numbers of ticks may skip, and where it ends.
-use Rattle.std.proofs.Common.{◌≡◌, ℕ, ◌<◌, ◌≤◌, List, inl, inr, arith}
+use Rattle.std.proofs.Common.{◌≡◌, ℕ, ◌*◌, ◌<◌, ◌≤◌, List, inl, inr, arith}
 use Rattle.std.proofs.lemmas.Bool.{cases_lt}
 use Rattle.claim.specs.declared.claim.Claim.{Claim}
 use Rattle.engine.specs.Supply.{Lawful}
 use Rattle.fit.specs.Fits.{Fits, LeastFor, given_of_all}
+use Rattle.fit.specs.Multiple.{LeastMultiple, Periodic}
 use Rattle.fit.specs.Stated.{Stated}
 use Rattle.fit.proofs.Serving.{more_serve}
-use Rattle.fit.proofs.Stating.{given_in_all, stated_divide, stated_formed}
+use Rattle.fit.proofs.Stating.{given_in_all, stated_formed, stated_multiple, stated_periodic}
 use Rattle.theory.specs.Demand.{demand_of_all}
 use Rattle.theory.specs.Pattern.{Pattern}
 use Rattle.theory.proofs.Grows.{all_grow}
@@ -21,5 +22,6 @@ module _ (s : ℕ → ℕ) (cycle quota : ℕ) (law : Lawful s cycle quota) (ps 
   skips t d m is found n low high =
       omega (arith, given_in_all ps cs st t, all_grow ps (stated_formed ps cs st) n t high, found.enough, more_serve s cycle quota law m n low)
 
-  pub settled : ((n : ℕ) → 0 < n → n ≤ 28800 → demand_of_all ps n ≤ s n) → Fits s ps
-  settled passed = twice_settles_all 14400 (omega arith) ps (stated_formed ps cs st) (stated_divide ps cs st) s law.joins passed
+  -- twice the least common multiple of the periods settles all
+  pub settled : (h : ℕ) → 1 ≤ h → (Periodic cs → LeastMultiple cs h) → ((n : ℕ) → 0 < n → n ≤ 2 * h → demand_of_all ps n ≤ s n) → Fits s ps
+  settled h some least passed = twice_settles_all h some ps (stated_formed ps cs st) (stated_multiple ps cs st h (least (stated_periodic ps cs st)).multiple) s law.joins passed

@@ -1,11 +1,44 @@
 //! The fit test of an engine.
+ghost use Rattle.std.specs.Int.{IsGcd};
 ghost use Rattle.std.specs.Prelude.{◌≡◌, ◌-◌, ◌≤◌, ◌↔◌, IsTrue, List, map, SomeIff};
 ghost use Rattle.fit.specs.Fits.{Fits, LeastFor, Paced, given_of_all};
+ghost use Rattle.fit.specs.Multiple.{LeastMultiple, Periodic};
 ghost use Rattle.fit.specs.Stated.{Stated};
 ghost use Rattle.theory.specs.Pattern.{Pattern};
 
 use claim::claim::Claim;
-use engine::supply::{FARTHEST, Supply};
+use engine::supply::Supply;
+
+/// A belt cycle, in ticks.
+const CYCLE: u32 = 14_400;
+
+/// The greatest number that divides both.
+fn greatest_divisor(one: u32, other: u32) -> u32
+    ensures { IsGcd one other result }
+{
+    let mut greater = one;
+    let mut lesser = other;
+    while lesser != 0 {
+        let rest = greater % lesser;
+        greater = lesser;
+        lesser = rest;
+    }
+    greater
+}
+
+/// The least common multiple of the claims' periods, where all of them divide a belt cycle.
+fn common_multiple(claims: &[&Claim]) -> u32
+    ensures some { 1 ≤ result }
+    ensures few { result ≤ 14400 }
+    ensures least { Periodic (map (λ c. c.now) claims.now) → LeastMultiple (map (λ c. c.now) claims.now) result }
+{
+    // What divides a belt cycle so often as the result fits in it, so that no product can grow too large.
+    let mut shared = CYCLE;
+    for claim in claims {
+        shared = greatest_divisor(shared, CYCLE / claim.period);
+    }
+    CYCLE / shared
+}
 
 /// What the claims leave of the ticks that are served in so many; nothing where they ask for more.
 fn spare(claims: &[&Claim], ticks: u32, served: u64) -> Option<u64>
@@ -42,8 +75,9 @@ pub fn fits<P: Supply>(platform: &P, engine: usize, claims: &[&Claim]) -> bool
     ensures fits { (ps : List Pattern) → Stated ps (map (λ c. c.now) claims.now) → IsTrue result ↔ Fits (P.Supply.supply platform.now engine) ps }
     ensures paced { (ps : List Pattern) → Stated ps (map (λ c. c.now) claims.now) → IsTrue result → Paced (map (λ c. c.now) claims.now) }
 {
-    // Twice a belt cycle settles every number of ticks, so the walk begins there.
-    let mut ticks = FARTHEST;
+    // Twice a common multiple of the periods settles every number of ticks, so the walk begins there.
+    let farthest = 2 * common_multiple(claims);
+    let mut ticks = farthest;
     while ticks > 0 {
         let served = u64::from(platform.supply(engine, ticks));
         let Some(spare) = spare(claims, ticks, served) else {

@@ -16,7 +16,7 @@ unwrap-requires c =
     let i = c.loop-task.task-index in
     let few = (slight_of c.args.part.now).few in
     let same : c.deref-task-items.result.now ≡ ts = search rules in
-    let many = zip_length (λ (t : Task) (k : Cut). CutOf ts c.args.rows.now t.window.offset k) (take i c.deref-task-items.result.now) (items c.loop-task.cuts) c.loop-task.invariant in
+    let many = zip_length (λ (t : Task) (k : Cut). CutOf ts c.args.rows.now c.args.ends.now t.window.offset k) (take i c.deref-task-items.result.now) (items c.loop-task.cuts) c.loop-task.invariant in
     c.push.ensures.room.1 (omega (arith, few, many, length-take i c.deref-task-items.result.now, ap length same, c.loop-task-test.true))
 
 pub loop-task-preserved : goal.loop-task-preserved
@@ -25,7 +25,7 @@ loop-task-preserved c =
     let xs = c.deref-task-items.result.now in
     let i = c.loop-task.task-index in
     let was = items c.loop-task.cuts in
-    let R : Task → Cut → Type 0 = λ t k. CutOf ts c.args.rows.now t.window.offset k in
+    let R : Task → Cut → Type 0 = λ t k. CutOf ts c.args.rows.now c.args.ends.now t.window.offset k in
     let put : items c.push.new.self ≡ was ++ c.cut.result ∷ [] = search rules in
     let more = take_more xs i _ c.loop-task-test.true in
     subst (λ (ks : List Cut). AllZip R (take (i + 1) xs) ks) (sym put)

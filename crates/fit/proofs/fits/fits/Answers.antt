@@ -39,7 +39,7 @@ returns-clause-fits g c =
     let p = c.args.platform.now in
     let e = c.args.engine in
     let cs = map (λ (b : Bor Claim). b.now) c.args.claims.now in
-    λ ps st. (λ _. settled (g.P.Supply.supply p e) _ _ (g.P.Supply.laws p e) ps cs st (λ n some few. c.loop-ticks.invariant.passed ps st n (omega arith) few), λ _. refl)
+    λ ps st. (λ _. settled (g.P.Supply.supply p e) _ _ (g.P.Supply.laws p e) ps cs st c.common_multiple-farthest.result c.common_multiple-farthest.ensures.some c.common_multiple-farthest.ensures.least (λ n some few. c.loop-ticks.invariant.passed ps st n (omega arith) few), λ _. refl)
 
 pub returns-clause-paced : goal.returns-clause-paced
 returns-clause-paced g c =
@@ -47,4 +47,4 @@ returns-clause-paced g c =
     let e = c.args.engine in
     let s = g.P.Supply.supply p e in
     let cs = map (λ (b : Bor Claim). b.now) c.args.claims.now in
-    λ ps st _. paced s _ _ (g.P.Supply.laws p e) ps cs st (settled s _ _ (g.P.Supply.laws p e) ps cs st (λ n some few. c.loop-ticks.invariant.passed ps st n (omega arith) few))
+    λ ps st _. paced s _ _ (g.P.Supply.laws p e) ps cs st (settled s _ _ (g.P.Supply.laws p e) ps cs st c.common_multiple-farthest.result c.common_multiple-farthest.ensures.some c.common_multiple-farthest.ensures.least (λ n some few. c.loop-ticks.invariant.passed ps st n (omega arith) few))

@@ -6,8 +6,8 @@ use Rattle.fit.proofs.fits.fits.Given as goal
 
 abbrev pub invariant-loop-ticks : goal.invariant-loop-ticks
 invariant-loop-ticks g l = record {
-  within : l.ticks ≤ 28800;
-  passed : (ps : List Pattern) → Stated ps (map (λ c. c.now) l.claims) → (n : ℕ) → l.ticks < n → n ≤ 28800 → demand_of_all ps n ≤ g.P.Supply.supply l.platform l.engine n;
+  within : l.ticks ≤ l.farthest;
+  passed : (ps : List Pattern) → Stated ps (map (λ c. c.now) l.claims) → (n : ℕ) → l.ticks < n → n ≤ l.farthest → demand_of_all ps n ≤ g.P.Supply.supply l.platform l.engine n;
 }
 
 abbrev pub decreases-loop-ticks : goal.decreases-loop-ticks

@@ -1,4 +1,5 @@
 use Rattle.std.proofs.Common.{rules, refl, ◌≡◌, ◌≤◌, length, map, sym}
+use Rattle.std.specs.List.Sorted.{IsPermutation}
 use Rattle.few.specs.Few.{items}
 use Rattle.claim.specs.Making.{CutOf, CutsOf, most_within}
 use Rattle.claim.proofs.Cutting.{claims_made}
@@ -16,8 +17,11 @@ returns c =
     let some : 1 ≤ length (part_of p g) = search rules in
     let ts : tasks_in c.part-part.result ≡ part_of p g = c.part-part.ensures in
     let rs : rows ≡ reached_rows p = search rules in
+    let es = items c.ends-ends.result in
     let whole : c.most_within.result ≡ most_within (part_of p g) (reached_rows p) 0 p.job.deadline = rw (sym ts, sym rs) c.most_within.ensures.most in
-    let ends : items c.ends.result ≡ map end_of (part_of p g) = rw (sym ts) c.ends.ensures in
-    let arrival : CutOf (part_of p g) (reached_rows p) 0 c.cut.result = rw (sym ts, sym rs) c.cut.ensures in
-    let cuts : CutsOf (part_of p g) (reached_rows p) (items c.cuts.result) = rw (sym ts, sym rs) c.cuts.ensures in
+    let ends : IsPermutation (map end_of (part_of p g)) es = rw (sym ts) c.ends-ends.ensures.same in
+    let first : CutOf (tasks_in c.part-part.result) rows es 0 c.cut-arrival.result = search rules in
+    let others : CutsOf (tasks_in c.part-part.result) rows es (items c.cuts.result) = search rules in
+    let arrival : CutOf (part_of p g) (reached_rows p) es 0 c.cut-arrival.result = rw (sym ts, sym rs) first in
+    let cuts : CutsOf (part_of p g) (reached_rows p) es (items c.cuts.result) = rw (sym ts, sym rs) others in
     (some, claims_made p (part_of p g) (part_formed p g) (part_fits p g) _ ends refl refl whole arrival cuts)
