@@ -1,0 +1,97 @@
+-- Worked cases of loading: which jobs are placed, which are refused and by which question, and what the sheet of one says.
+--   Order                          an order of engines: after tellings, for the tags of all engines, a tag and the loads
+--   Complete order                 it has every engine of the tag once, and nothing else
+--   whole count order              the rules on so many engines of tag 0 that serve every tick
+--   served_by marks e n            the supply of the engine e in n ticks, by the marks of all engines
+--   marked tags marks local order  the rules on engines with these tags and marks
+--   after us                       the lower nodes us, as a node has them
+--   alone n                        the nodes of a job of one sub-task of n ticks; all sub-tasks are of tag 0 where nothing else is said
+--   both n                         two sub-tasks of n ticks, without edges
+--   either                         10 ticks, and then 30 or 40 as an arrival takes it
+--   way                            200 ticks, then by a choice 300 on an engine of tag 1 or 600 on one of tag 0, then 100
+--   Writes text n t d ns           the text is that of a job with the number n, the period t, the deadline d and the nodes ns
+--   Placed rules rs text           no question refuses the text
+--   Refused rules rs text q        no job of the text is placed, and the question q refuses it
+--   IsPlaced rules t d ns          on an empty board each such job is placed, whatever its number and whatever the order of engines
+--   IsRefused rules t d ns q       on an empty board the question q refuses each such job
+--   WorkedCases                    the cases
+use Rattle.std.specs.Prelude.{◌≡◌, ℕ, ◌≢◌, Bool, true, false, List, [], ◌∷◌, map, ◌==◌, codes, slice_index_or}
+use Rattle.std.specs.List.{list_any, range_with_len}
+use Rattle.board.specs.declared.refusal.Refusal.{Refusal}
+use Rattle.board.specs.Loading.{IsLoaded, LoadRefused}
+use Rattle.board.specs.Placing.{Rules}
+use Rattle.board.specs.Refusal.{refusal_number}
+use Rattle.cyclic.specs.Fewest.{fewest}
+use Rattle.engine.specs.Calendar.{idle}
+use Rattle.engine.specs.Whole.{whole_supply}
+use Rattle.order.specs.Listing.{EachOnce}
+use Rattle.resident.specs.declared.resident.Resident.{Resident}
+use Rattle.sheet.specs.Sheet.{sheet_of}
+use Rattle.slack.specs.declared.rule.Position.{Position}
+use Rattle.slack.specs.Even.{even}
+use Rattle.slack.specs.Proportional.{proportional}
+use Rattle.std.specs.Prelude.{replicate}
+use Rattle.task.specs.declared.job.Job.{Job}
+use Rattle.task.specs.declared.node.Node.{Node}
+use Rattle.task.specs.declared.node.Node.TheVariants.{SubTask, Alternative, Conditional}
+use Rattle.task.specs.Flaws.{MadeOf}
+use Rattle.text.specs.JobText.{Reads}
+
+abbrev pub Order : Type 0
+Order = List (ℕ × ℕ) → List ℕ → ℕ → List ℕ → List ℕ
+
+abbrev pub Complete : Order → Type 0
+Complete order = (tellings : List (ℕ × ℕ)) (tags : List ℕ) (tag : ℕ) (loads : List ℕ) → EachOnce tags tag (order tellings tags tag loads)
+
+abbrev pub whole : ℕ → Order → Rules
+whole count order = record { tags = replicate count 0; supply = whole_supply count; local = proportional; listing = order }
+
+abbrev pub served_by : List (List Bool) → ℕ → ℕ → ℕ
+served_by marks e = fewest (slice_index_or marks e idle)
+
+abbrev pub marked : List ℕ → List (List Bool) → (Position → ℕ) → Order → Rules
+marked tags marks local order = record { tags = tags; supply = served_by marks; local = local; listing = order }
+
+unfoldable pub after : List ℕ → List Bool
+after us = map (λ u. list_any (λ x. x == u) us) (range_with_len 0 24)
+
+unfoldable pub alone : ℕ → List Node
+alone n = SubTask 0 n (after []) ∷ []
+
+unfoldable pub both : ℕ → List Node
+both n = SubTask 0 n (after []) ∷ SubTask 0 n (after []) ∷ []
+
+unfoldable pub either : List Node
+either =
+    SubTask 0 10 (after [])
+    ∷ Conditional (after (0 ∷ []))
+    ∷ SubTask 0 30 (after (1 ∷ []))
+    ∷ SubTask 0 40 (after (1 ∷ []))
+    ∷ []
+
+unfoldable pub way : List Node
+way =
+    SubTask 0 200 (after [])
+    ∷ Alternative (after (0 ∷ []))
+    ∷ SubTask 1 300 (after (1 ∷ []))
+    ∷ SubTask 0 600 (after (1 ∷ []))
+    ∷ SubTask 0 100 (after (2 ∷ 3 ∷ []))
+    ∷ []
+
+pub record Writes (text : List ℕ) (number period deadline : ℕ) (ns : List Node) : Type 0 where
+  pub job : Job
+  pub reads : Reads text job
+  pub made : MadeOf number period deadline ns job
+
+abbrev pub Placed : Rules → List Resident → List ℕ → Type 0
+Placed rules rs text = (f : Refusal) → LoadRefused rules rs text f → ⊥
+
+pub record Refused (rules : Rules) (rs : List Resident) (text : List ℕ) (q : ℕ) : Type 0 where
+  pub never : (r : Resident) → IsLoaded rules rs text r → ⊥
+  pub only : (f : Refusal) → LoadRefused rules rs text f → refusal_number f ≡ q
+
+abbrev pub IsPlaced : (Order → Rules) → ℕ → ℕ → List Node → Type 0
+IsPlaced rules t d ns = (order : Order) → Complete order → (text : List ℕ) (n : ℕ) → Writes text n t d ns → Placed (rules order) [] text
+
+abbrev pub IsRefused : (Order → Rules) → ℕ → ℕ → List Node → ℕ → Type 0
+IsRefused rules t d ns q = (order : Order) → Complete order → (text : List ℕ) (n : ℕ) → Writes text n t d ns → Refused (rules order) [] text q
