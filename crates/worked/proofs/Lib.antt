@@ -1,2 +1,6 @@
 pub mod Same
 pub mod Alike
+pub mod Known
+pub mod Fitting
+pub mod Sitting
+pub mod Loading
