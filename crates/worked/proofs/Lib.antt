@@ -4,3 +4,5 @@ pub mod Known
 pub mod Fitting
 pub mod Sitting
 pub mod Loading
+pub mod Single
+pub mod Cases

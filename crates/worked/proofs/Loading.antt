@@ -60,6 +60,13 @@ module _ (rules : Rules) (rs : List Resident) (text : List ℕ) (n t d : ℕ) (n
   abbrev pub Taken : ℕ → ℕ → Type 0
   Taken c g = (e : ℕ) × (tag_of rules.tags e ≡ Some g) × FitsOn rules.supply rs e (asks rules.local t d ns c g)
 
+  -- a part of the choice that fits on no engine of its tag
+  pub record Nowhere (c : ℕ) : Type 0 where
+    pub tag : ℕ
+    pub few : tag ≤ 7
+    pub has : is_part rules.local d ns c tag ≡ true
+    pub unfit : WellFormed (asks rules.local t d ns c tag) → Taken c tag → ⊥
+
   module _ (free : Free rs n) (room : length rs < 16) where
     its_free : (j : Job) → Reads text j → Free rs j.number
     its_free j reads = subst (Free rs) (sym (told j reads).its_number) free
@@ -82,13 +89,6 @@ module _ (rules : Rules) (rs : List Resident) (text : List ℕ) (n t d : ℕ) (n
         stuck.nowhere e there (subst (FitsOn rules.supply rs e) (sym same) fits)
     placed_by c is_choice short takes NotResident bad = bad
     placed_by c is_choice short takes ShortBuffer bad = bad
-
-    -- a part of each possible choice that fits on no engine of its tag
-    pub record Nowhere (c : ℕ) : Type 0 where
-      pub tag : ℕ
-      pub few : tag ≤ 7
-      pub has : is_part rules.local d ns c tag ≡ true
-      pub unfit : WellFormed (asks rules.local t d ns c tag) → Taken c tag → ⊥
 
     module _ (complete : Complete rules.listing) where
       none_placed : ((c : ℕ) → c < numbers Choice ns → span_of ns c ≤ d → Nowhere c) → (r : Resident) → IsLoaded rules rs text r → ⊥

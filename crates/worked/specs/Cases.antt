@@ -95,3 +95,21 @@ IsPlaced rules t d ns = (order : Order) → Complete order → (text : List ℕ)
 
 abbrev pub IsRefused : (Order → Rules) → ℕ → ℕ → List Node → ℕ → Type 0
 IsRefused rules t d ns q = (order : Order) → Complete order → (text : List ℕ) (n : ℕ) → Writes text n t d ns → Refused (rules order) [] text q
+
+-- one engine that serves every other tick
+abbrev pub half : Order → Rules
+half = marked (0 ∷ []) ((true ∷ false ∷ []) ∷ []) proportional
+
+pub record WorkedCases : Type 0 where
+  -- a job takes every tick of an engine
+  pub every_tick : IsPlaced (whole 1) 100 100 (alone 100)
+  -- of two ticks in a row one is served, but maybe not the first
+  pub half_in_time : IsPlaced half 2 2 (alone 1)
+  pub half_too_late : IsRefused half 1 1 (alone 1) 10
+  -- the sub-tasks of one tag share an engine, whatever others there are
+  pub one_tick_short : IsRefused (whole 1) 100 99 (both 50) 10
+  pub on_one_engine : IsRefused (whole 2) 100 99 (both 50) 10
+  pub just_room : IsPlaced (whole 1) 100 100 (both 50)
+  -- an arrival takes one way of a conditional, and needs no room for the other
+  pub one_way : IsPlaced (whole 1) 50 50 either
+  pub no_choice : IsRefused (whole 1) 50 49 either 9
