@@ -1,6 +1,7 @@
 -- The worked cases, by computing.
 use Rattle.std.proofs.Common.{◌≡◌, ℕ, zero, suc, ◌+◌, ◌<◌, ◌≤◌, Bool, true, false, eqb, List, [], ◌∷◌, refl, sym, ap, ◌∙◌, subst, inl, inr, arith}
-use Rattle.std.specs.Prelude.{nat_lt, Some}
+use Rattle.std.specs.Prelude.{nat_lt, Some, slice_get}
+use Rattle.std.proofs.lemmas.Option.{none-some}
 use Rattle.std.specs.List.{All, AllByRecursion}
 use Rattle.std.proofs.lemmas.Bool.{cases_Bool, eqb-true, false≢true}
 use Rattle.std.proofs.lemmas.List.Elements.{All-nil}
@@ -13,11 +14,16 @@ use Rattle.task.specs.declared.node.Node.{Node}
 use Rattle.theory.specs.Pattern.{Pattern, Window}
 use Rattle.task.specs.declared.node.Numbering.TheVariants.{Choice}
 use Rattle.task.specs.Picks.{numbers}
+use Rattle.cyclic.specs.Fewest.{fewest}
+use Rattle.cyclic.specs.FewestLaws.{fewest_joins}
+use Rattle.cyclic.specs.Least.{least}
+use Rattle.cyclic.specs.Ones.{mark, ones}
+use Rattle.engine.specs.Roster.{tag_of}
 use Rattle.engine.specs.Whole.{whole_supply}
 use Rattle.window.specs.Greatest.{greatest}
-use Rattle.worked.specs.Cases.{after, alone, both, either, way, IsPlaced, IsRefused, Order, Placed, Refused, whole, WorkedCases, Writes}
+use Rattle.worked.specs.Cases.{Complete, half, served_by, after, alone, both, either, way, IsPlaced, IsRefused, Order, Placed, Refused, whole, WorkedCases, Writes}
 use Rattle.worked.proofs.Fitting.{climbs, quickly}
-use Rattle.worked.proofs.Single.{placed_single, refused_single}
+use Rattle.worked.proofs.Single.{none_there, placed_single, refused_single}
 use Rattle.worked.proofs.Known.{asks, is_part, span_of}
 use Rattle.worked.proofs.Loading.{placed_by, refused_by_9, refused_by_10}
 
@@ -60,3 +66,137 @@ module _ where
   every_tick order complete text n writes =
       placed_single (whole 1 order) text n 100 100 (alone 100) writes 0 (omega (arith, choices_100)) (omega (arith, span_100)) only_100 refl
       (pattern_of 100 100 ((window 0 100 100 ∷ []) ∷ [])) asks_100 (omega arith) refl (λ a b. omega arith) (99 ∷ 199 ∷ 200 ∷ []) climb_100
+
+-- one sub-task of one tick on an engine that serves every other tick
+module _ where
+  span_1 : span_of (alone 1) 0 ≡ 1
+  unfolding after alone each rising falling some_below greatest
+  span_1 = refl
+
+  choices_1 : numbers Choice (alone 1) ≡ 1
+  unfolding alone after
+  choices_1 = refl
+
+  only_1 : (g : ℕ) → is_part proportional 2 (alone 1) 0 g ≡ true → g ≡ 0
+  unfolding after alone each rising falling some_below greatest
+  only_1 g has = elim (cases_Bool (eqb 0 g)) [
+    | inl yes' ↦ sym (eqb-true 0 g yes')
+    | inr no' ↦ absurd (false≢true (rw no' at has))
+  ]
+
+  has_1 : is_part proportional 1 (alone 1) 0 0 ≡ true
+  unfolding after alone each rising falling some_below greatest
+  has_1 = refl
+
+  asks_2_2 : asks proportional 2 2 (alone 1) 0 0 ≡ pattern_of 2 2 ((window 0 2 1 ∷ []) ∷ [])
+  unfolding after alone window each rising falling some_below greatest
+  asks_2_2 = refl
+
+  asks_1_1 : asks proportional 1 1 (alone 1) 0 0 ≡ pattern_of 1 1 ((window 0 1 1 ∷ []) ∷ [])
+  unfolding after alone window each rising falling some_below greatest
+  asks_1_1 = refl
+
+  climb_2_2 : climbs (pattern_of 2 2 ((window 0 2 1 ∷ []) ∷ []) ∷ []) (fewest (true ∷ false ∷ [])) 0 5 (1 ∷ 3 ∷ 4 ∷ []) ≡ true
+  unfolding window fewest least ones mark
+  climb_2_2 = refl
+
+  more_1_1 : (e : ℕ) → tag_of (0 ∷ []) e ≡ Some 0 → served_by ((true ∷ false ∷ []) ∷ []) e 1 < quickly (pattern_of 1 1 ((window 0 1 1 ∷ []) ∷ []) ∷ []) 1
+  unfolding window fewest least ones mark
+  more_1_1 zero at = omega arith
+  more_1_1 (suc e) at = absurd (none-some 0 at)
+
+  half_in_time : IsPlaced half 2 2 (alone 1)
+  half_in_time order complete text n writes =
+      placed_single (half order) text n 2 2 (alone 1) writes 0 (omega (arith, choices_1)) (omega (arith, span_1)) only_1 refl
+      (pattern_of 2 2 ((window 0 2 1 ∷ []) ∷ [])) asks_2_2 (omega arith) refl (fewest_joins (true ∷ false ∷ []) (omega arith)) (1 ∷ 3 ∷ 4 ∷ []) climb_2_2
+
+  half_too_late : IsRefused half 1 1 (alone 1) 10
+  half_too_late order complete text n writes =
+      refused_single (half order) text n 1 1 (alone 1) writes complete choices_1 (omega (arith, span_1)) has_1
+      (pattern_of 1 1 ((window 0 1 1 ∷ []) ∷ [])) asks_1_1 1 more_1_1
+
+-- two sub-tasks of 50 ticks
+module _ where
+  span_50 : span_of (both 50) 0 ≡ 50
+  unfolding after both each rising falling some_below greatest
+  span_50 = refl
+
+  choices_50 : numbers Choice (both 50) ≡ 1
+  unfolding both after
+  choices_50 = refl
+
+  only_50 : (g : ℕ) → is_part proportional 100 (both 50) 0 g ≡ true → g ≡ 0
+  unfolding after both each rising falling some_below greatest
+  only_50 g has = elim (cases_Bool (eqb 0 g)) [
+    | inl yes' ↦ sym (eqb-true 0 g yes')
+    | inr no' ↦ absurd (false≢true (rw no' at has))
+  ]
+
+  has_50 : is_part proportional 99 (both 50) 0 0 ≡ true
+  unfolding after both each rising falling some_below greatest
+  has_50 = refl
+
+  asks_99 : asks proportional 100 99 (both 50) 0 0 ≡ pattern_of 100 99 ((window 0 99 50 ∷ window 0 99 50 ∷ []) ∷ [])
+  unfolding after both window each rising falling some_below greatest
+  asks_99 = refl
+
+  asks_50 : asks proportional 100 100 (both 50) 0 0 ≡ pattern_of 100 100 ((window 0 100 50 ∷ window 0 100 50 ∷ []) ∷ [])
+  unfolding after both window each rising falling some_below greatest
+  asks_50 = refl
+
+  climb_50 : climbs (pattern_of 100 100 ((window 0 100 50 ∷ window 0 100 50 ∷ []) ∷ []) ∷ []) (whole_supply 1 0) 0 201 (99 ∷ 199 ∷ 200 ∷ []) ≡ true
+  unfolding window
+  climb_50 = refl
+
+  asked_99 : quickly (pattern_of 100 99 ((window 0 99 50 ∷ window 0 99 50 ∷ []) ∷ []) ∷ []) 99 ≡ 100
+  unfolding window
+  asked_99 = refl
+
+  short_by_one : (count : ℕ) → IsRefused (whole count) 100 99 (both 50) 10
+  short_by_one count order complete text n writes =
+      refused_single (whole count order) text n 100 99 (both 50) writes complete choices_50 (omega (arith, span_50)) has_50
+      (pattern_of 100 99 ((window 0 99 50 ∷ window 0 99 50 ∷ []) ∷ [])) asks_99 99 (λ e _. omega (arith, at_most count e 99, asked_99))
+
+  just_room : IsPlaced (whole 1) 100 100 (both 50)
+  just_room order complete text n writes =
+      placed_single (whole 1 order) text n 100 100 (both 50) writes 0 (omega (arith, choices_50)) (omega (arith, span_50)) only_50 refl
+      (pattern_of 100 100 ((window 0 100 50 ∷ window 0 100 50 ∷ []) ∷ [])) asks_50 (omega arith) refl (λ a b. omega arith) (99 ∷ 199 ∷ 200 ∷ []) climb_50
+
+-- 10 ticks, and then 30 or 40
+module _ where
+  abbrev ways : List (List Window)
+  ways = (window 0 10 10 ∷ window 10 50 30 ∷ []) ∷ (window 0 10 10 ∷ window 10 50 40 ∷ []) ∷ []
+
+  span_either : span_of either 0 ≡ 50
+  unfolding after either each rising falling some_below greatest
+  span_either = refl
+
+  choices_either : numbers Choice either ≡ 1
+  unfolding either after
+  choices_either = refl
+
+  only_either : (g : ℕ) → is_part proportional 50 either 0 g ≡ true → g ≡ 0
+  unfolding after either each rising falling some_below greatest
+  only_either g has = elim (cases_Bool (eqb 0 g)) [
+    | inl yes' ↦ sym (eqb-true 0 g yes')
+    | inr no' ↦ absurd (false≢true (rw no' at has))
+  ]
+
+  asks_either : asks proportional 50 50 either 0 0 ≡ pattern_of 50 50 ways
+  unfolding after either window each rising falling some_below greatest
+  asks_either = refl
+
+  climb_either : climbs (pattern_of 50 50 ways ∷ []) (whole_supply 1 0) 0 101 (9 ∷ 39 ∷ 49 ∷ 59 ∷ 89 ∷ 99 ∷ 100 ∷ []) ≡ true
+  unfolding window
+  climb_either = refl
+
+  one_way : IsPlaced (whole 1) 50 50 either
+  one_way order complete text n writes =
+      placed_single (whole 1 order) text n 50 50 either writes 0 (omega (arith, choices_either)) (omega (arith, span_either)) only_either refl
+      (pattern_of 50 50 ways) asks_either (omega arith) refl (λ a b. omega arith) (9 ∷ 39 ∷ 49 ∷ 59 ∷ 89 ∷ 99 ∷ 100 ∷ []) climb_either
+
+  no_choice : IsRefused (whole 1) 50 49 either 9
+  no_choice order complete text n writes =
+      refused_by_9 (whole 1 order) [] text n 50 49 either writes (none_there n) (omega arith) complete (λ c low.
+      let at : 0 ≡ c = omega (arith, choices_either) in
+      omega (arith, span_either, ap (span_of either) at))

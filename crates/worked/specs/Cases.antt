@@ -106,9 +106,8 @@ pub record WorkedCases : Type 0 where
   -- of two ticks in a row one is served, but maybe not the first
   pub half_in_time : IsPlaced half 2 2 (alone 1)
   pub half_too_late : IsRefused half 1 1 (alone 1) 10
-  -- the sub-tasks of one tag share an engine, whatever others there are
-  pub one_tick_short : IsRefused (whole 1) 100 99 (both 50) 10
-  pub on_one_engine : IsRefused (whole 2) 100 99 (both 50) 10
+  -- the sub-tasks of one tag share an engine, so others do not help
+  pub one_tick_short : (count : ℕ) → IsRefused (whole count) 100 99 (both 50) 10
   pub just_room : IsPlaced (whole 1) 100 100 (both 50)
   -- an arrival takes one way of a conditional, and needs no room for the other
   pub one_way : IsPlaced (whole 1) 50 50 either
