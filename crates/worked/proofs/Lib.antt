@@ -5,4 +5,5 @@ pub mod Fitting
 pub mod Sitting
 pub mod Loading
 pub mod Single
+pub mod Full
 pub mod Cases

@@ -1,12 +1,21 @@
 -- Jobs whose one part is of tag 0, on a board without jobs.
-use Rattle.std.proofs.Common.{◌≡◌, ℕ, zero, suc, ◌+◌, ◌*◌, ◌%◌, ◌<◌, ◌≤◌, Bool, true, false, eqb, List, [], ◌∷◌, refl, sym, ap, ◌∙◌, subst, arith}
+use Rattle.std.proofs.Common.{◌≡◌, ℕ, zero, suc, ◌+◌, ◌*◌, ◌%◌, ◌<◌, ◌≤◌, Bool, true, false, eqb, List, [], ◌∷◌, map, filter, refl, sym, ap, ◌∙◌, subst, arith}
 use Rattle.std.specs.Prelude.{Some}
 use Rattle.std.specs.List.{All, AllByRecursion}
-use Rattle.std.proofs.lemmas.List.Elements.{All-nil}
-use Rattle.board.specs.Placing.{FitsOn, Rules}
+use Rattle.std.proofs.lemmas.Bool.{eq-eqb}
+use Rattle.std.proofs.lemmas.List.{append-nil}
+use Rattle.std.proofs.lemmas.List.Concat.{flat_map-cons}
+use Rattle.std.proofs.lemmas.List.Elements.{All-head, All-nil}
+use Rattle.board.specs.Asked.{asked_by, asked_on}
+use Rattle.board.specs.Loading.{IsLoaded}
+use Rattle.board.specs.Placing.{FitsOn, Rules, Sits}
 use Rattle.engine.specs.Roster.{tag_of}
 use Rattle.fit.specs.Fits.{Fits}
+use Rattle.few.specs.Few.{items}
+use Rattle.plan.specs.Pattern.{part_pattern}
 use Rattle.resident.specs.declared.resident.Resident.{Resident}
+use Rattle.resident.specs.declared.resident.Seat.{Seat}
+use Rattle.resident.specs.Seats.{all_tags}
 use Rattle.resident.specs.Resident.{number_of}
 use Rattle.task.specs.declared.node.Node.{Node}
 use Rattle.task.specs.declared.node.Numbering.TheVariants.{Choice}
@@ -14,8 +23,9 @@ use Rattle.task.specs.Picks.{numbers}
 use Rattle.theory.specs.Pattern.{Pattern, WellFormed}
 use Rattle.worked.specs.Cases.{Complete, Placed, Refused, Writes}
 use Rattle.worked.proofs.Fitting.{climbs, fits_by, quickly, unfit_by}
-use Rattle.worked.proofs.Known.{asks, is_part, span_of}
-use Rattle.worked.proofs.Loading.{Asking, Nowhere, placed_by, refused_by_10, refused_by_9, Taken}
+use Rattle.worked.proofs.Known.{asks, is_part, plan_parts, span_of}
+use Rattle.worked.proofs.Loading.{Asking, Nowhere, placed_by, refused_by_10, refused_by_9, Taken, told}
+use Rattle.worked.proofs.Sitting.{one_seat, seat_where}
 
 pub none_there : (n : ℕ) → All (λ (r : Resident). Rattle.std.specs.Prelude.◌≢◌ (number_of r) n) []
 none_there n = All-nil _
@@ -54,3 +64,26 @@ module _ (rules : Rules) (text : List ℕ) (n t d : ℕ) (ns : List Node) (write
         unfit = λ formed (e, there, fits).
             unfit_by (rules.supply e) (p ∷ []) (subst WellFormed is formed, tt) m (more e there) (subst (λ (q : Pattern). Fits (rules.supply e) (q ∷ [])) is fits);
       }))
+
+  -- a job that was placed has one seat, of tag 0
+  pub record Seated (r : Resident) : Type 0 where
+    pub seat : Seat
+    pub alone : items r.seats ≡ seat ∷ []
+    pub tag : seat.tag ≡ 0
+    pub there : tag_of rules.tags seat.engine ≡ Some 0
+
+  pub seated : Complete rules.listing → (r : Resident) → IsLoaded rules [] text r → filter (is_part rules.local d ns r.plan.choice) all_tags ≡ 0 ∷ [] → Seated r
+  seated complete r loaded parts =
+      let is = told rules [] text n t d ns writes r.plan.job loaded.comes.reads in
+      let placed = loaded.places.placed in
+      let (s, alone, tag) = one_seat (items r.seats) 0 (r.parts ∙ plan_parts n t d ns r.plan.job is rules.local r.plan.choice r.plan placed.planned ∙ parts) in
+      let sits = All-head (Sits rules [] r.plan) s [] (subst (All (Sits rules [] r.plan)) alone placed.sits) in
+      record { seat = s; alone = alone; tag = tag; there = seat_where rules complete [] r.plan s sits ∙ ap Some tag }
+
+-- so it asks for no more than its part
+pub asked_alone : (r : Resident) (s : Seat) (e : ℕ) → items r.seats ≡ s ∷ [] → s.tag ≡ 0 → s.engine ≡ e → asked_on (r ∷ []) e ≡ part_pattern r.plan 0 ∷ []
+asked_alone r s e alone tag there =
+    flat_map-cons (λ x. asked_by x e) r []
+    ∙ append-nil (asked_by r e)
+    ∙ ap (λ (ss : List Seat). map (λ (x : Seat). part_pattern r.plan x.tag) (filter (λ (x : Seat). eqb x.engine e) ss)) alone
+    ∙ rw (eq-eqb s.engine e there) (ap (λ (g : ℕ). part_pattern r.plan g ∷ []) tag)

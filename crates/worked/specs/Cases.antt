@@ -103,6 +103,10 @@ half = marked (0 ∷ []) ((true ∷ false ∷ []) ∷ []) proportional
 pub record WorkedCases : Type 0 where
   -- a job takes every tick of an engine
   pub every_tick : IsPlaced (whole 1) 100 100 (alone 100)
+  -- and then there is no tick left for any other
+  pub no_tick_left :
+      (order : Order) → Complete order → (text more : List ℕ) (n m t d : ℕ) → Writes text n 100 100 (alone 100) → Writes more m t d (alone 1) → n ≢ m
+      → (r : Resident) → IsLoaded (whole 1 order) [] text r → Refused (whole 1 order) (r ∷ []) more 10
   -- of two ticks in a row one is served, but maybe not the first
   pub half_in_time : IsPlaced half 2 2 (alone 1)
   pub half_too_late : IsRefused half 1 1 (alone 1) 10
