@@ -50,8 +50,8 @@ module _ (rules : Rules) (rs : List Resident) (text : List ℕ) (n t d : ℕ) (n
         alike = subst (λ (l : List Node). (i : ℕ) → Rattle.worked.proofs.Same.Alike (Rattle.task.specs.Graph.at (graph j) i) (Rattle.task.specs.Graph.at l i)) made.its_nodes same.alike;
       }
 
-  its_choices : (j : Job) → Reads text j → numbers Choice (graph j) ≡ numbers Choice ns
-  its_choices j reads = let is = told j reads in numbers_same (graph j) ns is.long is.alike Choice
+  pub numbers_told : (j : Job) → Reads text j → numbers Choice (graph j) ≡ numbers Choice ns
+  numbers_told j reads = let is = told j reads in numbers_same (graph j) ns is.long is.alike Choice
 
   -- the part of a tag, where the job is so planned
   abbrev pub Asking : ℕ → ℕ → Type 0
@@ -77,10 +77,10 @@ module _ (rules : Rules) (rs : List Resident) (text : List ℕ) (n t d : ℕ) (n
     placed_by c is_choice short takes NumberTaken (j, reads, taken) = taken (its_free j reads)
     placed_by c is_choice short takes BoardFull (j, reads, _, full) = omega arith
     placed_by c is_choice short takes NoChoice (j, comes, none) =
-        none (c, omega (arith, its_choices j comes.reads), is_possible n t d ns j (told j comes.reads) c short)
+        none (c, omega (arith, numbers_told j comes.reads), is_possible n t d ns j (told j comes.reads) c short)
     placed_by c is_choice short takes NoPlacement (j, comes, _, none) =
         let is = told j comes.reads in
-        let stuck = none c (omega (arith, its_choices j comes.reads)) (is_possible n t d ns j is c short) in
+        let stuck = none c (omega (arith, numbers_told j comes.reads)) (is_possible n t d ns j is c short) in
         let same = plan_asks n t d ns j is rules.local c stuck.plan stuck.planned stuck.tag in
         let (e, there, fits) = takes stuck.tag (
           sym (plan_has n t d ns j is rules.local c stuck.plan stuck.planned stuck.tag) ∙ stuck.has,
@@ -99,7 +99,7 @@ module _ (rules : Rules) (rs : List Resident) (text : List ℕ) (n t d : ℕ) (n
           let is = told j reads in
           let places = loaded.places in
           let planned = places.placed.planned in
-          let none = nowhere c (omega (arith, places.is_choice, its_choices j reads)) (possible_short n t d ns j is c places.possible) in
+          let none = nowhere c (omega (arith, places.is_choice, numbers_told j reads)) (possible_short n t d ns j is c places.possible) in
           let has = plan_has n t d ns j is rules.local c r.plan planned none.tag ∙ none.has in
           let (e, there, fits) = part_sits rules complete rs j c r places.placed none.tag none.few has in
           none.unfit (asks_formed n t d ns j is rules.local c r.plan planned none.tag)
@@ -111,7 +111,7 @@ module _ (rules : Rules) (rs : List Resident) (text : List ℕ) (n t d : ℕ) (n
         only (Fault f) bad = absurd (no_fault text writes.job writes.reads f bad)
         only NumberTaken (j, reads, taken) = absurd (taken (its_free j reads))
         only BoardFull (j, reads, _, full) = absurd (omega arith)
-        only NoChoice (j, comes, none) = absurd (none (c, omega (arith, its_choices j comes.reads), is_possible n t d ns j (told j comes.reads) c short))
+        only NoChoice (j, comes, none) = absurd (none (c, omega (arith, numbers_told j comes.reads), is_possible n t d ns j (told j comes.reads) c short))
         only NoPlacement bad = refl
         only NotResident bad = absurd bad
         only ShortBuffer bad = absurd bad
@@ -122,7 +122,7 @@ module _ (rules : Rules) (rs : List Resident) (text : List ℕ) (n t d : ℕ) (n
             let j = r.plan.job in
             let reads = loaded.comes.reads in
             let places = loaded.places in
-            omega (arith, long r.plan.choice (omega (arith, places.is_choice, its_choices j reads)), possible_short n t d ns j (told j reads) r.plan.choice places.possible);
+            omega (arith, long r.plan.choice (omega (arith, places.is_choice, numbers_told j reads)), possible_short n t d ns j (told j reads) r.plan.choice places.possible);
         only = only;
       } where
         only : (f : Refusal) → LoadRefused rules rs text f → refusal_number f ≡ 9
@@ -131,6 +131,6 @@ module _ (rules : Rules) (rs : List Resident) (text : List ℕ) (n t d : ℕ) (n
         only BoardFull (j, reads, _, full) = absurd (omega arith)
         only NoChoice bad = refl
         only NoPlacement (j, comes, (c, is_choice, possible), _) =
-            absurd (omega (arith, long c (omega (arith, its_choices j comes.reads)), possible_short n t d ns j (told j comes.reads) c possible))
+            absurd (omega (arith, long c (omega (arith, numbers_told j comes.reads)), possible_short n t d ns j (told j comes.reads) c possible))
         only NotResident bad = absurd bad
         only ShortBuffer bad = absurd bad
