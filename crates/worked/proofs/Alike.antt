@@ -41,7 +41,7 @@ ticks_bare (SubTask tag ticks us) = refl
 ticks_bare (Alternative us) = refl
 ticks_bare (Conditional us) = refl
 
-sub_task_bare : (n : Node) → is_sub_task n ≡ is_sub_task (bare n)
+pub sub_task_bare : (n : Node) → is_sub_task n ≡ is_sub_task (bare n)
 sub_task_bare (SubTask tag ticks us) = refl
 sub_task_bare (Alternative us) = refl
 sub_task_bare (Conditional us) = refl

@@ -128,7 +128,7 @@ module _ (order : Order) (complete : Complete order) (text : List ℕ) (n : ℕ)
       let formed = asks_formed n 100 100 (alone 100) r.plan.job is proportional r.plan.choice r.plan loaded.places.placed.planned 0 in
       subst WellFormed (ap (λ c. asks proportional 100 100 (alone 100) c 0) its_choice ∙ asks_all) formed
 
-  module _ (more : List ℕ) (m t d : ℕ) (other : Writes more m t d (alone 1)) (differ : n ≢ m) where
+  module _ (later : Order) (complete_later : Complete later) (more : List ℕ) (m t d : ℕ) (other : Writes more m t d (alone 1)) (differ : n ≢ m) where
     free : Free (r ∷ []) m
     free = All-cons _ r [] (λ e. differ (sym its_number ∙ e)) (none_there m)
 
@@ -151,12 +151,12 @@ module _ (order : Order) (complete : Complete order) (text : List ℕ) (n : ℕ)
           some,
         )
 
-    pub no_tick_left : Refused (whole_engines 1 order) (r ∷ []) more 10
+    pub no_tick_left : Refused (whole_engines 1 later) (r ∷ []) more 10
     no_tick_left =
-        refused_by_10 (whole_engines 1 order) (r ∷ []) more m t d (alone 1) other free (omega arith) complete 0 (omega (arith, choices_tick))
+        refused_by_10 (whole_engines 1 later) (r ∷ []) more m t d (alone 1) other free (omega arith) complete_later 0 (omega (arith, choices_tick))
         (omega (arith, span_tick, some_deadline other.job, other.made.its_deadline)) (λ c low _.
         let at : 0 ≡ c = omega (arith, choices_tick) in
-        subst (Nowhere (whole_engines 1 order) (r ∷ []) more m t d (alone 1) other) at (record {
+        subst (Nowhere (whole_engines 1 later) (r ∷ []) more m t d (alone 1) other) at (record {
           tag = 0;
           few = omega arith;
           has = has_tick d;

@@ -6,4 +6,5 @@ pub mod Sitting
 pub mod Loading
 pub mod Single
 pub mod Full
+pub mod Chosen
 pub mod Cases

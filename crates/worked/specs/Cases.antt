@@ -4,6 +4,8 @@
 --   whole count order              the rules on so many engines of tag 0 that serve every tick
 --   served_by marks e n            the supply of the engine e in n ticks, by the marks of all engines
 --   marked tags marks local order  the rules on engines with these tags and marks
+--   half order                     on one engine of tag 0 that serves every other tick
+--   two_sorts local order          on an engine of tag 0 that serves every tick, and one of tag 1 that serves every other
 --   after us                       the lower nodes us, as a node has them
 --   alone n                        the nodes of a job of one sub-task of n ticks; all sub-tasks are of tag 0 where nothing else is said
 --   both n                         two sub-tasks of n ticks, without edges
@@ -14,6 +16,7 @@
 --   Refused rules rs text q        no job of the text is placed, and the question q refuses it
 --   IsPlaced rules t d ns          on an empty board each such job is placed, whatever its number and whatever the order of engines
 --   IsRefused rules t d ns q       on an empty board the question q refuses each such job
+--   Sheet rules n t d ns bs        each such job with the number n that is placed on an empty board has the sheet bs
 --   WorkedCases                    the cases
 use Rattle.std.specs.Prelude.{◌≡◌, ℕ, ◌≢◌, Bool, true, false, List, [], ◌∷◌, map, ◌==◌, codes, slice_index_or}
 use Rattle.std.specs.List.{list_any, range_with_len}
@@ -51,6 +54,12 @@ served_by marks e = fewest (slice_index_or marks e idle)
 
 abbrev pub marked : List ℕ → List (List Bool) → (Position → ℕ) → Order → Rules
 marked tags marks local order = record { tags = tags; supply = served_by marks; local = local; listing = order }
+
+abbrev pub half : Order → Rules
+half = marked (0 ∷ []) ((true ∷ false ∷ []) ∷ []) proportional
+
+abbrev pub two_sorts : (Position → ℕ) → Order → Rules
+two_sorts local = marked (0 ∷ 1 ∷ []) ((true ∷ []) ∷ (true ∷ false ∷ []) ∷ []) local
 
 unfoldable pub after : List ℕ → List Bool
 after us = map (λ u. list_any (λ x. x == u) us) (range_with_len 0 24)
@@ -96,17 +105,19 @@ IsPlaced rules t d ns = (order : Order) → Complete order → (text : List ℕ)
 abbrev pub IsRefused : (Order → Rules) → ℕ → ℕ → List Node → ℕ → Type 0
 IsRefused rules t d ns q = (order : Order) → Complete order → (text : List ℕ) (n : ℕ) → Writes text n t d ns → Refused (rules order) [] text q
 
--- one engine that serves every other tick
-abbrev pub half : Order → Rules
-half = marked (0 ∷ []) ((true ∷ false ∷ []) ∷ []) proportional
+abbrev pub Sheet : (Order → Rules) → ℕ → ℕ → ℕ → List Node → List ℕ → Type 0
+Sheet rules n t d ns bs =
+    (order : Order) → Complete order → (text : List ℕ) → Writes text n t d ns
+    → (r : Resident) → IsLoaded (rules order) [] text r → sheet_of r ≡ bs
 
 pub record WorkedCases : Type 0 where
   -- a job takes every tick of an engine
   pub every_tick : IsPlaced (whole 1) 100 100 (alone 100)
   -- and then there is no tick left for any other
   pub no_tick_left :
-      (order : Order) → Complete order → (text more : List ℕ) (n m t d : ℕ) → Writes text n 100 100 (alone 100) → Writes more m t d (alone 1) → n ≢ m
-      → (r : Resident) → IsLoaded (whole 1 order) [] text r → Refused (whole 1 order) (r ∷ []) more 10
+      (order later : Order) → Complete order → Complete later
+      → (text more : List ℕ) (n m t d : ℕ) → Writes text n 100 100 (alone 100) → Writes more m t d (alone 1) → n ≢ m
+      → (r : Resident) → IsLoaded (whole 1 order) [] text r → Refused (whole 1 later) (r ∷ []) more 10
   -- of two ticks in a row one is served, but maybe not the first
   pub half_in_time : IsPlaced half 2 2 (alone 1)
   pub half_too_late : IsRefused half 1 1 (alone 1) 10
@@ -116,3 +127,8 @@ pub record WorkedCases : Type 0 where
   -- an arrival takes one way of a conditional, and needs no room for the other
   pub one_way : IsPlaced (whole 1) 50 50 either
   pub no_choice : IsRefused (whole 1) 50 49 either 9
+  -- the first choice does not fit on the slower engine, the second does on the other
+  pub second_choice : IsPlaced (two_sorts proportional) 1200 1000 way
+  pub second_choice_even : IsPlaced (two_sorts even) 1200 1000 way
+  pub sheet : Sheet (two_sorts proportional) 7 1200 1000 way (codes "job=7\nchoice=1\nnode=0,0,0,222\nnode=3,0,222,888\nnode=4,0,888,1000\n")
+  pub sheet_even : Sheet (two_sorts even) 7 1200 1000 way (codes "job=7\nchoice=1\nnode=0,0,0,233\nnode=3,0,233,866\nnode=4,0,866,1000\n")
