@@ -1,18 +1,22 @@
 -- The worked cases, by computing.
 use Rattle.std.proofs.Common.{◌≡◌, ℕ, zero, suc, ◌+◌, ◌<◌, ◌≤◌, Bool, true, false, eqb, List, [], ◌∷◌, refl, sym, ap, ◌∙◌, subst, inl, inr, arith}
-use Rattle.std.specs.Prelude.{nat_lt, Some, slice_get}
+use Rattle.std.specs.Prelude.{nat_lt, Some, codes}
+use Rattle.std.specs.Fmt.{digits}
 use Rattle.std.proofs.lemmas.Option.{none-some}
 use Rattle.std.specs.List.{All, AllByRecursion}
 use Rattle.std.proofs.lemmas.Bool.{cases_Bool, eqb-true, false≢true}
 use Rattle.std.proofs.lemmas.List.Elements.{All-nil}
 use Rattle.board.specs.Placing.{FitsOn, Rules}
+use Rattle.computed.specs.Asked.{tasks}
 use Rattle.computed.specs.Tables.{each, falling, rising, some_below}
 use Rattle.resident.specs.declared.resident.Resident.{Resident}
 use Rattle.resident.specs.Resident.{number_of}
+use Rattle.slack.specs.Even.{even}
 use Rattle.slack.specs.Proportional.{proportional}
 use Rattle.task.specs.declared.node.Node.{Node}
 use Rattle.theory.specs.Pattern.{Pattern, Window}
 use Rattle.task.specs.declared.node.Numbering.TheVariants.{Choice}
+use Rattle.task.specs.Node.{is_sub_task}
 use Rattle.task.specs.Picks.{numbers}
 use Rattle.cyclic.specs.Fewest.{fewest}
 use Rattle.cyclic.specs.FewestLaws.{fewest_joins}
@@ -21,7 +25,10 @@ use Rattle.cyclic.specs.Ones.{mark, ones}
 use Rattle.engine.specs.Roster.{tag_of}
 use Rattle.engine.specs.Whole.{whole_supply}
 use Rattle.window.specs.Greatest.{greatest}
-use Rattle.worked.specs.Cases.{Complete, half, served_by, after, alone, both, either, way, IsPlaced, IsRefused, Order, Placed, Refused, whole, WorkedCases, Writes}
+use Rattle.worked.specs.Cases.{after, alone, both, either, half, IsPlaced, IsRefused, served_by, Sheet, two_sorts, way, whole, WorkedCases}
+use Rattle.worked.proofs.Chosen as chosen
+use Rattle.worked.proofs.Chosen.{slow}
+use Rattle.worked.proofs.Full.{no_tick_left}
 use Rattle.worked.proofs.Fitting.{climbs, quickly}
 use Rattle.worked.proofs.Single.{none_there, placed_single, refused_single}
 use Rattle.worked.proofs.Known.{asks, is_part, span_of}
@@ -200,3 +207,89 @@ module _ where
       refused_by_9 (whole 1 order) [] text n 50 49 either writes (none_there n) (omega arith) complete (λ c low.
       let at : 0 ≡ c = omega (arith, choices_either) in
       omega (arith, span_either, ap (span_of either) at))
+
+-- a job with an alternative, by each slack rule
+module _ where
+  asks_first : asks proportional 1200 1000 way 0 1 ≡ chosen.pattern_of 1200 1000 (chosen.window 333 833 300 ∷ [])
+  unfolding after way each rising falling some_below greatest
+  asks_first = refl
+
+  asks_first_even : asks even 1200 1000 way 0 1 ≡ chosen.pattern_of 1200 1000 (chosen.window 333 766 300 ∷ [])
+  unfolding after way each rising falling some_below greatest
+  asks_first_even = refl
+
+  short_500 : fewest slow 500 < quickly (chosen.pattern_of 1200 1000 (chosen.window 333 833 300 ∷ []) ∷ []) 500
+  unfolding fewest least ones mark
+  short_500 = omega arith
+
+  short_433 : fewest slow 433 < quickly (chosen.pattern_of 1200 1000 (chosen.window 333 766 300 ∷ []) ∷ []) 433
+  unfolding fewest least ones mark
+  short_433 = omega arith
+
+  abbrev on_way : ℕ → ℕ → Pattern
+  on_way a b = chosen.pattern_of 1200 1000 (chosen.window 0 a 200 ∷ chosen.window a b 600 ∷ chosen.window b 1000 100 ∷ [])
+
+  asks_second : asks proportional 1200 1000 way 1 0 ≡ on_way 222 888
+  unfolding after way each rising falling some_below greatest
+  asks_second = refl
+
+  asks_second_even : asks even 1200 1000 way 1 0 ≡ on_way 233 866
+  unfolding after way each rising falling some_below greatest
+  asks_second_even = refl
+
+  abbrev rises : List ℕ
+  rises = 111 ∷ 221 ∷ 533 ∷ 665 ∷ 777 ∷ 887 ∷ 999 ∷ 1421 ∷ 1865 ∷ 2400 ∷ []
+
+  abbrev rises_even : List ℕ
+  rises_even = 133 ∷ 232 ∷ 566 ∷ 632 ∷ 766 ∷ 865 ∷ 999 ∷ 1432 ∷ 1832 ∷ 2400 ∷ []
+
+  climb_way : climbs (on_way 222 888 ∷ []) (fewest (true ∷ [])) 0 2401 rises ≡ true
+  unfolding fewest least ones mark
+  climb_way = refl
+
+  climb_way_even : climbs (on_way 233 866 ∷ []) (fewest (true ∷ [])) 0 2401 rises_even ≡ true
+  unfolding fewest least ones mark
+  climb_way_even = refl
+
+  tasks_way : tasks proportional way 1000 1 is_sub_task ≡ chosen.node_task 0 0 222 200 ∷ chosen.node_task 3 222 888 600 ∷ chosen.node_task 4 888 1000 100 ∷ []
+  unfolding after way each rising falling some_below greatest
+  tasks_way = refl
+
+  tasks_way_even : tasks even way 1000 1 is_sub_task ≡ chosen.node_task 0 0 233 200 ∷ chosen.node_task 3 233 866 600 ∷ chosen.node_task 4 866 1000 100 ∷ []
+  unfolding after way each rising falling some_below greatest
+  tasks_way_even = refl
+
+  second_choice : IsPlaced (two_sorts proportional) 1200 1000 way
+  second_choice order complete text n writes =
+      chosen.second_placed proportional 222 888 333 833 500 asks_first short_500 asks_second rises climb_way tasks_way order complete text n writes
+
+  second_choice_even : IsPlaced (two_sorts even) 1200 1000 way
+  second_choice_even order complete text n writes =
+      chosen.second_placed even 233 866 333 766 433 asks_first_even short_433 asks_second_even rises_even climb_way_even tasks_way_even order complete text n writes
+
+  sheet : Sheet (two_sorts proportional) 7 1200 1000 way (codes "job=7\nchoice=1\nnode=0,0,0,222\nnode=3,0,222,888\nnode=4,0,888,1000\n")
+  unfolding digits
+  sheet order complete text writes r loaded =
+      chosen.its_sheet proportional 222 888 333 833 500 asks_first short_500 asks_second rises climb_way tasks_way order complete text 7 writes r loaded ∙ refl
+
+  sheet_even : Sheet (two_sorts even) 7 1200 1000 way (codes "job=7\nchoice=1\nnode=0,0,0,233\nnode=3,0,233,866\nnode=4,0,866,1000\n")
+  unfolding digits
+  sheet_even order complete text writes r loaded =
+      chosen.its_sheet even 233 866 333 766 433 asks_first_even short_433 asks_second_even rises_even climb_way_even tasks_way_even order complete text 7 writes r loaded ∙ refl
+
+pub worked_cases : WorkedCases
+worked_cases = record {
+  every_tick = every_tick;
+  no_tick_left = λ order later complete complete-later text more n m t d writes other differ r loaded.
+      no_tick_left order complete text n writes r loaded later complete-later more m t d other differ;
+  half_in_time = half_in_time;
+  half_too_late = half_too_late;
+  one_tick_short = short_by_one;
+  just_room = just_room;
+  one_way = one_way;
+  no_choice = no_choice;
+  second_choice = second_choice;
+  second_choice_even = second_choice_even;
+  sheet = sheet;
+  sheet_even = sheet_even;
+}
