@@ -1,11 +1,11 @@
 -- What is computed of a job's nodes is the same where they differ in no edge.
-use Rattle.std.proofs.Common.{◌≡◌, ℕ, zero, suc, ◌+◌, ◌-◌, ◌/◌, ◌%◌, Bool, true, false, cond, not, eqb, ◌&&◌, ◌||◌, List, [], ◌∷◌, ◌++◌, length, map, get_or, refl, sym, ap, ◌∙◌}
+use Rattle.std.proofs.Common.{◌≡◌, ℕ, zero, suc, ◌-◌, ◌/◌, ◌%◌, Bool, false, cond, not, eqb, ◌&&◌, ◌||◌, List, [], ◌∷◌, ◌++◌, length, map, get_or, refl, sym, ap, ◌∙◌}
 use Rattle.std.proofs.Math.Path.{fun_ext}
 use Rattle.computed.specs.Asked.{pattern, task, tasks, tasks_below, tasks_by, tasks_of}
 use Rattle.computed.specs.Graph.{all_reached, concrete, concrete_of, is_led, kept, led, reached, reached_of, rows}
 use Rattle.computed.specs.Lengths.{lengths, lengths_by, weights}
 use Rattle.computed.specs.Tables.{each, rising, some_below}
-use Rattle.computed.specs.Windows.{due, ends, opens, windows, windows_by, windows_of}
+use Rattle.computed.specs.Windows.{ends, opens, windows, windows_by, windows_of}
 use Rattle.plan.specs.declared.part.Task.{Task}
 use Rattle.plan.specs.Part.{tagged}
 use Rattle.plan.specs.Pattern.{branch_of}
@@ -15,9 +15,9 @@ use Rattle.task.specs.declared.node.Node.TheVariants.{SubTask, Alternative, Cond
 use Rattle.task.specs.declared.node.Numbering.{Numbering}
 use Rattle.task.specs.declared.node.Numbering.TheVariants.{Branch, Choice}
 use Rattle.task.specs.declared.tables.Concrete.{Concrete}
-use Rattle.task.specs.Graph.{at, count_below, edge, outs, rank}
+use Rattle.task.specs.Graph.{at, count_below, edge}
 use Rattle.task.specs.Node.{covers, is_sub_task, ticks}
-use Rattle.task.specs.Picks.{by_choice, keeps, numbers, pick, product, ways}
+use Rattle.task.specs.Picks.{by_choice, keeps, numbers, product, ways}
 use Rattle.task.specs.Tables.{leads}
 use Rattle.window.specs.declared.layout.Lengths.{Lengths}
 use Rattle.window.specs.declared.layout.Measure.{Measure}

@@ -1,8 +1,8 @@
 -- The job with an alternative: its first choice fits nowhere, and its second has the sheet that is computed.
-use Rattle.std.proofs.Common.{◌≡◌, ℕ, zero, suc, ◌+◌, ◌*◌, ◌<◌, ◌≤◌, Bool, true, false, cond, eqb, List, [], ◌∷◌, ◌++◌, flat_map, filter, refl, sym, ap, ◌∙◌, subst, inl, inr, arith}
+use Rattle.std.proofs.Common.{◌≡◌, ℕ, zero, suc, ◌<◌, Bool, true, false, cond, eqb, List, [], ◌∷◌, ◌++◌, flat_map, filter, refl, ap, ◌∙◌, subst, inl, inr, arith}
 use Rattle.std.proofs.Math.Path.{fun_ext}
 use Rattle.std.specs.Prelude.{Some, None, unwrap_or}
-use Rattle.std.proofs.lemmas.Bool.{cases_Bool, cases_eq, eqb-true, false≢true}
+use Rattle.std.proofs.lemmas.Bool.{cases_eq}
 use Rattle.std.proofs.lemmas.Option.{none-some, same_Some}
 use Rattle.board.specs.Loading.{IsLoaded}
 use Rattle.board.specs.Placing.{FitsOn}
@@ -10,8 +10,6 @@ use Rattle.computed.specs.Asked.{tasks}
 use Rattle.computed.specs.Tables.{each, falling, rising, some_below}
 use Rattle.cyclic.specs.Fewest.{fewest}
 use Rattle.cyclic.specs.FewestLaws.{fewest_joins}
-use Rattle.cyclic.specs.Least.{least}
-use Rattle.cyclic.specs.Ones.{mark, ones}
 use Rattle.engine.specs.Roster.{tag_of}
 use Rattle.few.specs.Few.{items}
 use Rattle.fit.specs.Fits.{Fits}
@@ -22,40 +20,37 @@ use Rattle.plan.specs.Plan.{nodes_of}
 use Rattle.plan.proofs.Formed.{part_formed}
 use Rattle.resident.specs.declared.resident.Resident.{Resident}
 use Rattle.resident.specs.declared.resident.Seat.{Seat}
-use Rattle.resident.specs.Resident.{engine_among, number_of}
+use Rattle.resident.specs.Resident.{engine_among}
 use Rattle.resident.specs.Seats.{all_tags}
 use Rattle.sheet.specs.Lines.{node_line, title}
 use Rattle.sheet.specs.Sheet.{line_of, sheet_of, tag_of as tag_at_node}
 use Rattle.slack.specs.declared.rule.Position.{Position}
-use Rattle.task.specs.declared.node.Numbering.TheVariants.{Choice}
 use Rattle.task.specs.Graph.{at}
 use Rattle.task.specs.Node.{is_sub_task}
-use Rattle.task.specs.Picks.{numbers}
-use Rattle.theory.specs.Pattern.{Pattern, WellFormed, Window}
+use Rattle.theory.specs.Pattern.{Pattern, WellFormed}
 use Rattle.window.specs.Greatest.{greatest}
-use Rattle.worked.specs.Cases.{after, Complete, Order, Placed, served_by, two_sorts, way, Writes}
+use Rattle.worked.specs.Cases.{after, Complete, IsPlaced, Order, served_by, two_sorts, way, Writes}
 use Rattle.worked.proofs.Alike.{sub_task_bare}
 use Rattle.worked.proofs.Fitting.{climbs, quickly, unfit_by}
-use Rattle.worked.proofs.Known.{asks, asks_formed, is_part, plan_asks, plan_has, plan_tasks, span_of}
+use Rattle.worked.proofs.Known.{asks, is_part, plan_asks, plan_has, plan_tasks, span_of}
 use Rattle.worked.proofs.Loading.{numbers_told, told}
+use Rattle.worked.proofs.Parts.{choices_way, first_way, only_way, parts_way, pattern_of, window}
 use Rattle.worked.proofs.Single.{placed_single, seated}
 use Rattle.worked.proofs.Sitting.{part_sits}
 
 abbrev pub slow : List Bool
 slow = true ∷ false ∷ []
 
-abbrev pub window : ℕ → ℕ → ℕ → Window
-window o l w = record { offset = o; deadline = l; ticks = w }
-
-abbrev pub pattern_of : ℕ → ℕ → List Window → Pattern
-pattern_of t d ws = record { period = t; deadline = d; branches = ws ∷ [] }
-
 abbrev pub node_task : ℕ → ℕ → ℕ → ℕ → Task
 node_task v o l w = record { node = v; window = record { offset = o; deadline = l }; ticks = w }
 
-choices_way : numbers Choice way ≡ 2
-unfolding after way
-choices_way = refl
+-- what the part of tag 1 asks under the first choice, where its sub-task has this window
+abbrev pub first_asks : ℕ → ℕ → Pattern
+first_asks o l = pattern_of 1200 1000 ((window o l 300 ∷ []) ∷ [])
+
+-- what the part of tag 0 asks under the second, where the longest sub-task has this one
+abbrev pub second_asks : ℕ → ℕ → Pattern
+second_asks o l = pattern_of 1200 1000 ((window 0 o 200 ∷ window o l 600 ∷ window l 1000 100 ∷ []) ∷ [])
 
 span_way : span_of way 1 ≡ 900
 unfolding after way each rising falling some_below greatest
@@ -78,48 +73,33 @@ at_0 ss s g alone there = ap (λ (l : List Seat). unwrap_or (engine_among l g) 0
   one true = there
   one false = refl
 
-module _ (local : Position → ℕ) where
-  only_way : (g : ℕ) → is_part local 1000 way 1 g ≡ true → g ≡ 0
-  unfolding after way each rising falling some_below greatest
-  only_way g has = elim (cases_Bool (eqb 0 g)) [
-    | inl yes' ↦ sym (eqb-true 0 g yes')
-    | inr no' ↦ absurd (false≢true (rw no' at has))
-  ]
+module _ (local : Position → ℕ) (a b : ℕ) where
+  -- the second choice fits, where what it asks is served wherever it rises
+  pub second_placed : asks local 1200 1000 way 1 0 ≡ second_asks a b → (bs : List ℕ) → climbs (second_asks a b ∷ []) (fewest (true ∷ [])) 0 2401 bs ≡ true
+      → IsPlaced (two_sorts local) 1200 1000 way
+  second_placed second bs climb order complete text n writes =
+      placed_single (two_sorts local order) text n 1200 1000 way writes 1 (omega (arith, choices_way)) (omega (arith, span_way)) (only_way local 1000) refl
+      (second_asks a b) second (omega arith) refl (fewest_joins (true ∷ []) (omega arith)) bs climb
 
-  has_1 : is_part local 1000 way 0 1 ≡ true
-  unfolding after way each rising falling some_below greatest
-  has_1 = refl
-
-  parts_way : filter (is_part local 1000 way 1) all_tags ≡ 0 ∷ []
-  unfolding after way each rising falling some_below greatest
-  parts_way = refl
-
-  -- the windows and the second choice's sub-tasks, as they are computed
-  module _ (a b : ℕ) (open' due m : ℕ)
-      (first : asks local 1200 1000 way 0 1 ≡ pattern_of 1200 1000 (window open' due 300 ∷ []))
-      (short : fewest slow m < quickly (pattern_of 1200 1000 (window open' due 300 ∷ []) ∷ []) m)
-      (second : asks local 1200 1000 way 1 0 ≡ pattern_of 1200 1000 (window 0 a 200 ∷ window a b 600 ∷ window b 1000 100 ∷ []))
-      (bs : List ℕ) (climb : climbs (pattern_of 1200 1000 (window 0 a 200 ∷ window a b 600 ∷ window b 1000 100 ∷ []) ∷ []) (fewest (true ∷ [])) 0 2401 bs ≡ true)
+  -- the first does not, where m ticks serve less than it asks
+  module _ (o l m : ℕ)
+      (first : asks local 1200 1000 way 0 1 ≡ first_asks o l)
+      (short : fewest slow m < quickly (first_asks o l ∷ []) m)
       (its_tasks : tasks local way 1000 1 is_sub_task ≡ node_task 0 0 a 200 ∷ node_task 3 a b 600 ∷ node_task 4 b 1000 100 ∷ [])
       (order : Order) (complete : Complete order) (text : List ℕ) (n : ℕ) (writes : Writes text n 1200 1000 way) where
-    pub second_placed : Placed (two_sorts local order) [] text
-    second_placed =
-        placed_single (two_sorts local order) text n 1200 1000 way writes 1 (omega (arith, choices_way)) (omega (arith, span_way)) only_way refl
-        (pattern_of 1200 1000 (window 0 a 200 ∷ window a b 600 ∷ window b 1000 100 ∷ [])) second (omega arith) refl (fewest_joins (true ∷ []) (omega arith)) bs climb
-
     module _ (r : Resident) (loaded : IsLoaded (two_sorts local order) [] text r) where
       not_first : r.plan.choice ≡ 0 → ⊥
       not_first is_0 =
           let j = r.plan.job in
           let is = told (two_sorts local order) [] text n 1200 1000 way writes j loaded.comes.reads in
           let placed = loaded.places.placed in
-          let has = plan_has n 1200 1000 way j is local r.plan.choice r.plan placed.planned 1 ∙ ap (λ c. is_part local 1000 way c 1) is_0 ∙ has_1 in
+          let has = plan_has n 1200 1000 way j is local r.plan.choice r.plan placed.planned 1 ∙ ap (λ c. is_part local 1000 way c 1) is_0 ∙ first_way local 1000 in
           let same = plan_asks n 1200 1000 way j is local r.plan.choice r.plan placed.planned 1 ∙ ap (λ c. asks local 1200 1000 way c 1) is_0 ∙ first in
           let formed = subst WellFormed same (part_formed r.plan 1) in
           let (e, there, fits) = part_sits (two_sorts local order) complete [] j r.plan.choice r placed 1 (omega arith) has in
           let on_1 : FitsOn (served_by ((true ∷ []) ∷ slow ∷ [])) [] 1 (part_pattern r.plan 1)
           = subst (λ (x : ℕ). FitsOn (served_by ((true ∷ []) ∷ slow ∷ [])) [] x (part_pattern r.plan 1)) (engine_1 e there) fits in
-          unfit_by (fewest slow) (pattern_of 1200 1000 (window open' due 300 ∷ []) ∷ []) (formed, tt) m short
+          unfit_by (fewest slow) (first_asks o l ∷ []) (formed, tt) m short
           (subst (λ (q : Pattern). Fits (fewest slow) (q ∷ [])) same on_1)
 
       its_choice : r.plan.choice ≡ 1
@@ -134,7 +114,7 @@ module _ (local : Position → ℕ) where
       its_sheet =
           let j = r.plan.job in
           let is = told (two_sorts local order) [] text n 1200 1000 way writes j loaded.comes.reads in
-          let sits = seated (two_sorts local order) text n 1200 1000 way writes complete r loaded (ap (λ c. filter (is_part local 1000 way c) all_tags) its_choice ∙ parts_way) in
+          let sits = seated (two_sorts local order) text n 1200 1000 way writes complete r loaded (ap (λ c. filter (is_part local 1000 way c) all_tags) its_choice ∙ parts_way local 1000) in
           let on_0 = engine_0 sits.seat.engine sits.there in
           let lines : line_of r ≡ (λ (t : Task). node_line t.node 0 t.window.offset t.window.deadline) =
           fun_ext (λ (t : Task). ap (λ e. node_line t.node e t.window.offset t.window.deadline) (at_0 (items r.seats) sits.seat (tag_at_node (at (nodes_of r.plan) t.node)) sits.alone on_0)) in

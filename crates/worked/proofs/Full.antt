@@ -1,10 +1,9 @@
 -- Where a job takes every tick of the one engine, there is none left for another.
-use Rattle.std.proofs.Common.{◌≡◌, ℕ, zero, suc, ◌+◌, ◌*◌, ◌/◌, ◌%◌, ◌<◌, ◌≤◌, max, Bool, true, false, cond, ◌&&◌, eqb, leb, List, [], ◌∷◌, filter, refl, sym, ap, ◌∙◌, subst, inl, inr, mul_comm, arith}
+use Rattle.std.proofs.Common.{◌≡◌, ℕ, zero, suc, ◌*◌, ◌/◌, ◌%◌, ◌≤◌, eqb, leb, List, [], ◌∷◌, filter, refl, sym, ap, ◌∙◌, subst, mul_comm, arith}
 use native.Mathlib.Nat.{div-add-mod}
 use Rattle.std.specs.Prelude.{Some, ◌≢◌}
-use Rattle.std.specs.List.{All, AllByRecursion}
 use Rattle.std.proofs.lemmas.Bool.{and_parts, eqb-true, le-leb, leb-true}
-use Rattle.std.proofs.lemmas.List.Elements.{All-cons, All-nil}
+use Rattle.std.proofs.lemmas.List.Elements.{All-cons}
 use Rattle.std.proofs.lemmas.List.Sums.{sum_by-cons}
 use Rattle.std.proofs.lemmas.Option.{none-some}
 use Rattle.board.specs.Asked.{asked_on}
@@ -13,23 +12,21 @@ use Rattle.computed.specs.Tables.{each, falling, rising, some_below}
 use Rattle.engine.specs.Roster.{tag_of}
 use Rattle.engine.specs.Whole.{whole_supply}
 use Rattle.fit.specs.Fits.{Fits}
-use Rattle.plan.specs.Pattern.{part_pattern}
 use Rattle.resident.specs.declared.resident.Resident.{Resident}
 use Rattle.resident.specs.Resident.{number_of}
 use Rattle.resident.specs.Seats.{all_tags}
 use Rattle.slack.specs.declared.rule.Position.{Position}
 use Rattle.slack.specs.Proportional.{proportional}
 use Rattle.task.specs.declared.job.Job.{Job}
-use Rattle.task.specs.declared.node.Numbering.TheVariants.{Choice}
-use Rattle.task.specs.Picks.{numbers}
-use Rattle.theory.specs.Demand.{demand, demand_of_all, demand_quick, whole}
-use Rattle.theory.specs.Pattern.{Pattern, share, WellFormed, Window}
+use Rattle.theory.specs.Demand.{demand, demand_quick, whole}
+use Rattle.theory.specs.Pattern.{Pattern, WellFormed}
 use Rattle.theory.proofs.Quick.{demand_is_quick}
 use Rattle.theory.proofs.Settles.{demand_settles}
 use Rattle.window.specs.Greatest.{greatest}
 use Rattle.worked.specs.Cases.{after, alone, Complete, Order, Refused, whole as whole_engines, Writes}
 use Rattle.worked.proofs.Known.{asks, asks_formed, is_part, plan_asks, span_of}
 use Rattle.worked.proofs.Loading.{Nowhere, numbers_told, refused_by_10, told}
+use Rattle.worked.proofs.Parts.{choices_alone, has_alone, parts_alone, pattern_of, window}
 use Rattle.worked.proofs.Single.{asked_alone, none_there, seated}
 
 some_times : (m t : ℕ) → 14400 ≡ m * t → 1 ≤ m
@@ -52,23 +49,15 @@ one_tick : ℕ → Position
 one_tick d = record { deadline = d; span = 1; depth = 1; head = 1; tail = 0; level = 1 }
 
 abbrev tick : ℕ → ℕ → ℕ → Pattern
-tick t d due = record { period = t; deadline = d; branches = (record { offset = 0; deadline = due; ticks = 1 } ∷ []) ∷ [] }
+tick t d due = pattern_of t d ((window 0 due 1 ∷ []) ∷ [])
 
 asks_tick : (t d : ℕ) → asks proportional t d (alone 1) 0 0 ≡ tick t d (proportional (one_tick d))
 unfolding after alone one_tick each rising falling some_below greatest
 asks_tick t d = refl
 
-has_tick : (d : ℕ) → is_part proportional d (alone 1) 0 0 ≡ true
-unfolding after alone each rising falling some_below greatest
-has_tick d = refl
-
 span_tick : span_of (alone 1) 0 ≡ 1
 unfolding after alone each rising falling some_below greatest
 span_tick = refl
-
-choices_tick : numbers Choice (alone 1) ≡ 1
-unfolding after alone
-choices_tick = refl
 
 tick_asked : (t d due : ℕ) → WellFormed (tick t d due) → 1 ≤ whole (tick t d due)
 tick_asked t d due formed =
@@ -77,7 +66,7 @@ tick_asked t d due formed =
 
 -- the job that takes every tick
 all_ticks : Pattern
-all_ticks = record { period = 100; deadline = 100; branches = (record { offset = 0; deadline = 100; ticks = 100 } ∷ []) ∷ [] }
+all_ticks = pattern_of 100 100 ((window 0 100 100 ∷ []) ∷ [])
 
 asks_all : asks proportional 100 100 (alone 100) 0 0 ≡ all_ticks
 unfolding after alone all_ticks each rising falling some_below greatest
@@ -86,14 +75,6 @@ asks_all = refl
 all_asked : demand_quick all_ticks 14400 ≡ 14400
 unfolding all_ticks
 all_asked = refl
-
-all_parts : filter (is_part proportional 100 (alone 100) 0) all_tags ≡ 0 ∷ []
-unfolding after alone each rising falling some_below greatest
-all_parts = refl
-
-choices_all : numbers Choice (alone 100) ≡ 1
-unfolding after alone
-choices_all = refl
 
 period_divides : (j : Job) → 14400 % j.period ≡ 0
 period_divides j = eqb-true (14400 % j.period) 0 (and_parts (leb 1 j.period) (eqb (14400 % j.period) 0) j.periodic).1
@@ -109,7 +90,7 @@ module _ (order : Order) (complete : Complete order) (text : List ℕ) (n : ℕ)
   its_choice : r.plan.choice ≡ 0
   its_choice =
       let low = loaded.places.is_choice in
-      omega (arith, choices_all, numbers_told (whole_engines 1 order) [] text n 100 100 (alone 100) writes r.plan.job loaded.comes.reads)
+      omega (arith, choices_alone 100, numbers_told (whole_engines 1 order) [] text n 100 100 (alone 100) writes r.plan.job loaded.comes.reads)
 
   its_number : number_of r ≡ n
   its_number = (told (whole_engines 1 order) [] text n 100 100 (alone 100) writes r.plan.job loaded.comes.reads).its_number
@@ -117,10 +98,10 @@ module _ (order : Order) (complete : Complete order) (text : List ℕ) (n : ℕ)
   asked_here : asked_on (r ∷ []) 0 ≡ all_ticks ∷ []
   asked_here =
       let is = told (whole_engines 1 order) [] text n 100 100 (alone 100) writes r.plan.job loaded.comes.reads in
-      let sits = seated (whole_engines 1 order) text n 100 100 (alone 100) writes complete r loaded (ap (λ c. filter (is_part proportional 100 (alone 100) c) all_tags) its_choice ∙ all_parts) in
-      let asks = plan_asks n 100 100 (alone 100) r.plan.job is proportional r.plan.choice r.plan loaded.places.placed.planned 0 in
+      let sits = seated (whole_engines 1 order) text n 100 100 (alone 100) writes complete r loaded (ap (λ c. filter (is_part proportional 100 (alone 100) c) all_tags) its_choice ∙ parts_alone proportional 100 100) in
+      let its_asks = plan_asks n 100 100 (alone 100) r.plan.job is proportional r.plan.choice r.plan loaded.places.placed.planned 0 in
       asked_alone r sits.seat 0 sits.alone sits.tag (only_engine sits.seat.engine 0 sits.there)
-      ∙ ap (λ (p : Pattern). p ∷ []) (asks ∙ ap (λ c. Rattle.worked.proofs.Known.asks proportional 100 100 (alone 100) c 0) its_choice ∙ asks_all)
+      ∙ ap (λ (p : Pattern). p ∷ []) (its_asks ∙ ap (λ c. asks proportional 100 100 (alone 100) c 0) its_choice ∙ asks_all)
 
   all_formed : WellFormed all_ticks
   all_formed =
@@ -153,13 +134,13 @@ module _ (order : Order) (complete : Complete order) (text : List ℕ) (n : ℕ)
 
     pub no_tick_left : Refused (whole_engines 1 later) (r ∷ []) more 10
     no_tick_left =
-        refused_by_10 (whole_engines 1 later) (r ∷ []) more m t d (alone 1) other free (omega arith) complete_later 0 (omega (arith, choices_tick))
+        refused_by_10 (whole_engines 1 later) (r ∷ []) more m t d (alone 1) other free (omega arith) complete_later 0 (omega (arith, choices_alone 1))
         (omega (arith, span_tick, some_deadline other.job, other.made.its_deadline)) (λ c low _.
-        let at : 0 ≡ c = omega (arith, choices_tick) in
+        let at : 0 ≡ c = omega (arith, choices_alone 1) in
         subst (Nowhere (whole_engines 1 later) (r ∷ []) more m t d (alone 1) other) at (record {
           tag = 0;
           few = omega arith;
-          has = has_tick d;
+          has = has_alone proportional d 1;
           unfit = λ formed (e, there, fits).
               unfit formed (subst (λ (x : ℕ). Fits (whole_supply 1 x) (asks proportional t d (alone 1) 0 0 ∷ asked_on (r ∷ []) x)) (only_engine e 0 there) fits);
         }))

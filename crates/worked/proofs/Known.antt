@@ -1,13 +1,12 @@
 -- A plan of a job of known numbers and nodes, and which of its choices are possible.
-use Rattle.std.proofs.Common.{◌≡◌, ℕ, ◌+◌, ◌<◌, ◌≤◌, Bool, true, List, [], ◌∷◌, length, filter, refl, sym, ap, ◌∙◌, subst, arith}
+use Rattle.std.proofs.Common.{◌≡◌, ℕ, ◌≤◌, Bool, List, filter, ap, ◌∙◌, subst, arith}
 use Rattle.std.proofs.Math.Path.{fun_ext}
 use Rattle.computed.specs.Asked.{pattern, pattern_for, tasks}
 use Rattle.computed.specs.Graph.{concrete}
 use Rattle.computed.specs.Lengths.{lengths}
-use Rattle.computed.proofs.Asked.{job_sound, part_is, pattern_is, tasks_are}
+use Rattle.computed.proofs.Asked.{job_sound, pattern_is, tasks_are}
 use Rattle.computed.proofs.Graph.{concrete_is}
 use Rattle.computed.proofs.Lengths.{lengths_are}
-use Rattle.plan.specs.declared.part.Task.{Task}
 use Rattle.plan.specs.declared.plan.Plan.{Plan}
 use Rattle.plan.specs.Part.{part_of, tagged, tasks_where}
 use Rattle.plan.specs.Pattern.{part_pattern}
@@ -19,8 +18,7 @@ use Rattle.task.specs.declared.job.Job.{Job}
 use Rattle.task.specs.declared.node.Node.{Node}
 use Rattle.task.specs.Flaws.{graph}
 use Rattle.theory.specs.Pattern.{Pattern, WellFormed}
-use Rattle.window.specs.declared.layout.Lengths.{Lengths}
-use Rattle.window.specs.Path.{Path, Possible}
+use Rattle.window.specs.Path.{Possible}
 use Rattle.window.proofs.Paths.{path_end}
 use Rattle.worked.proofs.Alike.{pattern_same, span_same, tagged_bare, tasks_same}
 use Rattle.worked.proofs.Same.{bare, Told}

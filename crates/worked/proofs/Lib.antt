@@ -5,6 +5,7 @@ pub mod Fitting
 pub mod Sitting
 pub mod Loading
 pub mod Single
+pub mod Parts
 pub mod Full
 pub mod Chosen
 pub mod Cases

@@ -1,14 +1,12 @@
 -- What loading answers of a job of known numbers and nodes.
-use Rattle.std.proofs.Common.{◌≡◌, ℕ, ◌+◌, ◌<◌, ◌≤◌, Bool, true, List, [], ◌∷◌, length, refl, sym, ap, ◌∙◌, subst, inl, inr, arith}
-use Rattle.std.specs.Prelude.{Some, ◌≢◌}
+use Rattle.std.proofs.Common.{◌≡◌, ℕ, ◌<◌, ◌≤◌, true, List, length, refl, sym, ap, ◌∙◌, subst, inl, inr, arith}
+use Rattle.std.specs.Prelude.{Some}
 use Rattle.board.specs.declared.refusal.Refusal.{Refusal}
 use Rattle.board.specs.declared.refusal.Refusal.TheVariants.{Fault, NumberTaken, BoardFull, NoChoice, NoPlacement, NotResident, ShortBuffer}
-use Rattle.board.specs.Loading.{Comes, Free, IsLoaded, LoadRefused, SomePossible}
-use Rattle.board.specs.Placing.{FitsOn, Rules, Stuck}
+use Rattle.board.specs.Loading.{Free, IsLoaded, LoadRefused}
+use Rattle.board.specs.Placing.{FitsOn, Rules}
 use Rattle.board.specs.Refusal.{refusal_number}
 use Rattle.engine.specs.Roster.{tag_of}
-use Rattle.plan.specs.declared.plan.Plan.{Plan}
-use Rattle.plan.specs.Pattern.{part_pattern}
 use Rattle.resident.specs.declared.resident.Resident.{Resident}
 use Rattle.task.specs.declared.job.Job.{Job}
 use Rattle.task.specs.declared.node.Node.{Node}
@@ -18,9 +16,7 @@ use Rattle.task.specs.Picks.{numbers}
 use Rattle.text.specs.declared.fault.Fault as faults
 use Rattle.text.specs.JobText.{Reads}
 use Rattle.text.specs.JobText as texts
-use Rattle.text.specs.Slots.{Missized}
-use Rattle.theory.specs.Pattern.{Pattern, WellFormed}
-use Rattle.window.specs.Path.{Possible}
+use Rattle.theory.specs.Pattern.{WellFormed}
 use Rattle.worked.specs.Cases.{Complete, Placed, Refused, Writes}
 use Rattle.worked.proofs.Alike.{numbers_same}
 use Rattle.worked.proofs.Known.{asks, asks_formed, is_part, is_possible, plan_asks, plan_has, possible_short, span_of}

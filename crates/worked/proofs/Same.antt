@@ -1,15 +1,15 @@
 -- Two jobs of one text have the same numbers, and nodes that differ in no edge.
-use Rattle.std.proofs.Common.{◌≡◌, ℕ, zero, suc, Bool, false, List, [], ◌∷◌, ◌++◌, length, get_or, decimal, refl, sym, ap, ◌∙◌, subst, inl, inr, arith}
+use Rattle.std.proofs.Common.{◌≡◌, ℕ, zero, suc, Bool, false, List, [], ◌∷◌, ◌++◌, length, get_or, decimal, refl, sym, ap, ◌∙◌, subst, arith}
 use Rattle.task.specs.declared.job.Job.{Job}
 use Rattle.task.specs.declared.node.Node.{Node}
 use Rattle.task.specs.declared.node.Node.TheVariants.{SubTask, Alternative, Conditional}
-use Rattle.task.specs.Flaws.{graph, MadeOf}
+use Rattle.task.specs.Flaws.{graph}
 use Rattle.task.specs.Graph.{at}
 use Rattle.task.specs.Node.{after}
 use Rattle.text.specs.declared.key.Key as keys
 use Rattle.text.specs.declared.value.Kind as kinds
 use Rattle.text.specs.JobText.{Reads, Written, node_slots, nodes_slots, slots, written}
-use Rattle.text.specs.Slots.{Ranged, Slot, slot}
+use Rattle.text.specs.Slots.{Slot, slot}
 use Rattle.text.specs.Value.{Numeral, listed, places, word}
 use Rattle.text.proofs.Calendars.{decimal_numeral}
 use Rattle.text.proofs.Injective.{set_same}

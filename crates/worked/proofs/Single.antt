@@ -1,5 +1,5 @@
 -- Jobs whose one part is of tag 0, on a board without jobs.
-use Rattle.std.proofs.Common.{◌≡◌, ℕ, zero, suc, ◌+◌, ◌*◌, ◌%◌, ◌<◌, ◌≤◌, Bool, true, false, eqb, List, [], ◌∷◌, map, filter, refl, sym, ap, ◌∙◌, subst, arith}
+use Rattle.std.proofs.Common.{◌≡◌, ℕ, ◌+◌, ◌*◌, ◌%◌, ◌<◌, ◌≤◌, true, eqb, List, [], ◌∷◌, map, filter, sym, ap, ◌∙◌, subst, arith}
 use Rattle.std.specs.Prelude.{Some}
 use Rattle.std.specs.List.{All, AllByRecursion}
 use Rattle.std.proofs.lemmas.Bool.{eq-eqb}
@@ -8,7 +8,7 @@ use Rattle.std.proofs.lemmas.List.Concat.{flat_map-cons}
 use Rattle.std.proofs.lemmas.List.Elements.{All-head, All-nil}
 use Rattle.board.specs.Asked.{asked_by, asked_on}
 use Rattle.board.specs.Loading.{IsLoaded}
-use Rattle.board.specs.Placing.{FitsOn, Rules, Sits}
+use Rattle.board.specs.Placing.{Rules, Sits}
 use Rattle.engine.specs.Roster.{tag_of}
 use Rattle.fit.specs.Fits.{Fits}
 use Rattle.few.specs.Few.{items}
@@ -24,7 +24,7 @@ use Rattle.theory.specs.Pattern.{Pattern, WellFormed}
 use Rattle.worked.specs.Cases.{Complete, Placed, Refused, Writes}
 use Rattle.worked.proofs.Fitting.{climbs, fits_by, quickly, unfit_by}
 use Rattle.worked.proofs.Known.{asks, is_part, plan_parts, span_of}
-use Rattle.worked.proofs.Loading.{Asking, Nowhere, placed_by, refused_by_10, refused_by_9, Taken, told}
+use Rattle.worked.proofs.Loading.{Nowhere, placed_by, refused_by_10, Taken, told}
 use Rattle.worked.proofs.Sitting.{one_seat, seat_where}
 
 pub none_there : (n : ℕ) → All (λ (r : Resident). Rattle.std.specs.Prelude.◌≢◌ (number_of r) n) []
