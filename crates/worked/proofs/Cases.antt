@@ -17,7 +17,7 @@ use Rattle.slack.specs.Proportional.{proportional}
 use Rattle.task.specs.Node.{is_sub_task}
 use Rattle.theory.specs.Pattern.{Pattern}
 use Rattle.window.specs.Greatest.{greatest}
-use Rattle.worked.specs.Cases.{after, alone, both, either, half, IsPlaced, IsRefused, served_by, Sheet, two_sorts, way, whole, WorkedCases}
+use Rattle.worked.specs.Cases.{after, alone, both, either, half, AllPlaced, AllGet, served_by, AllShow, two_sorts, way, whole, WorkedCases}
 use Rattle.worked.proofs.Chosen.{first_asks, its_sheet, node_task, second_asks, second_placed, slow}
 use Rattle.worked.proofs.Fitting.{climbs, quickly}
 use Rattle.worked.proofs.Full.{no_tick_left}
@@ -43,7 +43,7 @@ module _ where
   unfolding after alone each rising falling some_below greatest
   asks_100 = refl
 
-  every_tick : IsPlaced (whole 1) 100 100 (alone 100)
+  every_tick : AllPlaced (whole 1) 100 100 (alone 100)
   every_tick order complete text n writes =
       placed_single (whole 1 order) text n 100 100 (alone 100) writes 0 (omega (arith, choices_alone 100)) (omega (arith, span_100)) (only_alone proportional 100 100) refl
       all_ticks asks_100 (omega arith) refl (λ a b. omega arith) (99 ∷ 199 ∷ 200 ∷ []) refl
@@ -74,12 +74,12 @@ module _ where
   more_1 zero at = omega arith
   more_1 (suc e) at = absurd (none-some 0 at)
 
-  half_in_time : IsPlaced half 2 2 (alone 1)
+  half_in_time : AllPlaced half 2 2 (alone 1)
   half_in_time order complete text n writes =
       placed_single (half order) text n 2 2 (alone 1) writes 0 (omega (arith, choices_alone 1)) (omega (arith, span_1)) (only_alone proportional 2 1) refl
       (tick_in 2) asks_2 (omega arith) refl (fewest_joins slow (omega arith)) (1 ∷ 3 ∷ 4 ∷ []) climb_2
 
-  half_too_late : IsRefused half 1 1 (alone 1) 10
+  half_too_late : AllGet half 1 1 (alone 1) 10
   half_too_late order complete text n writes =
       refused_single (half order) text n 1 1 (alone 1) writes complete (choices_alone 1) (omega (arith, span_1)) (has_alone proportional 1 1) (tick_in 1) asks_1 1 more_1
 
@@ -103,12 +103,12 @@ module _ where
   asked_99 : quickly (two_in 99 ∷ []) 99 ≡ 100
   asked_99 = refl
 
-  one_tick_short : (count : ℕ) → IsRefused (whole count) 100 99 (both 50) 10
+  one_tick_short : (count : ℕ) → AllGet (whole count) 100 99 (both 50) 10
   one_tick_short count order complete text n writes =
       refused_single (whole count order) text n 100 99 (both 50) writes complete (choices_both 50) (omega (arith, span_50)) (has_both proportional 99 50)
       (two_in 99) asks_99 99 (λ e _. omega (arith, at_most count e 99, asked_99))
 
-  just_room : IsPlaced (whole 1) 100 100 (both 50)
+  just_room : AllPlaced (whole 1) 100 100 (both 50)
   just_room order complete text n writes =
       placed_single (whole 1 order) text n 100 100 (both 50) writes 0 (omega (arith, choices_both 50)) (omega (arith, span_50)) (only_both proportional 100 50) refl
       (two_in 100) asks_50 (omega arith) refl (λ a b. omega arith) (99 ∷ 199 ∷ 200 ∷ []) refl
@@ -126,12 +126,12 @@ module _ where
   unfolding after either each rising falling some_below greatest
   asks_either = refl
 
-  one_way : IsPlaced (whole 1) 50 50 either
+  one_way : AllPlaced (whole 1) 50 50 either
   one_way order complete text n writes =
       placed_single (whole 1 order) text n 50 50 either writes 0 (omega (arith, choices_either)) (omega (arith, span_either)) (only_either proportional 50) refl
       two_ways asks_either (omega arith) refl (λ a b. omega arith) (9 ∷ 39 ∷ 49 ∷ 59 ∷ 89 ∷ 99 ∷ 100 ∷ []) refl
 
-  no_choice : IsRefused (whole 1) 50 49 either 9
+  no_choice : AllGet (whole 1) 50 49 either 9
   no_choice order complete text n writes =
       refused_by_9 (whole 1 order) [] text n 50 49 either writes (none_there n) (omega arith) complete (λ c low.
       let at : 0 ≡ c = omega (arith, choices_either) in
@@ -186,17 +186,17 @@ module _ where
   unfolding after way each rising falling some_below greatest
   tasks_way_even = refl
 
-  second_choice : IsPlaced (two_sorts proportional) 1200 1000 way
+  second_choice : AllPlaced (two_sorts proportional) 1200 1000 way
   second_choice = second_placed proportional 222 888 asks_second rises climb_way
 
-  second_choice_even : IsPlaced (two_sorts even) 1200 1000 way
+  second_choice_even : AllPlaced (two_sorts even) 1200 1000 way
   second_choice_even = second_placed even 233 866 asks_second_even rises_even climb_way_even
 
-  sheet : Sheet (two_sorts proportional) 7 1200 1000 way (codes "job=7\nchoice=1\nnode=0,0,0,222\nnode=3,0,222,888\nnode=4,0,888,1000\n")
+  sheet : AllShow (two_sorts proportional) 7 1200 1000 way (codes "job=7\nchoice=1\nnode=0,0,0,222\nnode=3,0,222,888\nnode=4,0,888,1000\n")
   unfolding digits
   sheet order complete text writes r loaded = its_sheet proportional 222 888 333 833 500 asks_first short_500 tasks_way order complete text 7 writes r loaded
 
-  sheet_even : Sheet (two_sorts even) 7 1200 1000 way (codes "job=7\nchoice=1\nnode=0,0,0,233\nnode=3,0,233,866\nnode=4,0,866,1000\n")
+  sheet_even : AllShow (two_sorts even) 7 1200 1000 way (codes "job=7\nchoice=1\nnode=0,0,0,233\nnode=3,0,233,866\nnode=4,0,866,1000\n")
   unfolding digits
   sheet_even order complete text writes r loaded = its_sheet even 233 866 333 766 433 asks_first_even short_433 tasks_way_even order complete text 7 writes r loaded
 

@@ -29,7 +29,7 @@ use Rattle.task.specs.Graph.{at}
 use Rattle.task.specs.Node.{is_sub_task}
 use Rattle.theory.specs.Pattern.{Pattern, WellFormed}
 use Rattle.window.specs.Greatest.{greatest}
-use Rattle.worked.specs.Cases.{after, Complete, IsPlaced, Order, served_by, two_sorts, way, Writes}
+use Rattle.worked.specs.Cases.{after, Complete, AllPlaced, Order, served_by, two_sorts, way, Writes}
 use Rattle.worked.proofs.Alike.{sub_task_bare}
 use Rattle.worked.proofs.Fitting.{climbs, quickly, unfit_by}
 use Rattle.worked.proofs.Known.{asks, is_part, plan_asks, plan_has, plan_tasks, span_of}
@@ -76,7 +76,7 @@ at_0 ss s g alone there = ap (λ (l : List Seat). unwrap_or (engine_among l g) 0
 module _ (local : Position → ℕ) (a b : ℕ) where
   -- the second choice fits, where what it asks is served wherever it rises
   pub second_placed : asks local 1200 1000 way 1 0 ≡ second_asks a b → (bs : List ℕ) → climbs (second_asks a b ∷ []) (fewest (true ∷ [])) 0 2401 bs ≡ true
-      → IsPlaced (two_sorts local) 1200 1000 way
+      → AllPlaced (two_sorts local) 1200 1000 way
   second_placed second bs climb order complete text n writes =
       placed_single (two_sorts local order) text n 1200 1000 way writes 1 (omega (arith, choices_way)) (omega (arith, span_way)) (only_way local 1000) refl
       (second_asks a b) second (omega arith) refl (fewest_joins (true ∷ []) (omega arith)) bs climb

@@ -23,7 +23,7 @@ use Rattle.theory.specs.Pattern.{Pattern, WellFormed}
 use Rattle.theory.proofs.Quick.{demand_is_quick}
 use Rattle.theory.proofs.Settles.{demand_settles}
 use Rattle.window.specs.Greatest.{greatest}
-use Rattle.worked.specs.Cases.{after, alone, Complete, Order, Refused, whole as whole_engines, Writes}
+use Rattle.worked.specs.Cases.{after, alone, Complete, Order, Gets, whole as whole_engines, Writes}
 use Rattle.worked.proofs.Known.{asks, asks_formed, is_part, plan_asks, span_of}
 use Rattle.worked.proofs.Loading.{Nowhere, numbers_told, refused_by_10, told}
 use Rattle.worked.proofs.Parts.{choices_alone, has_alone, parts_alone, pattern_of, window}
@@ -132,7 +132,7 @@ module _ (order : Order) (complete : Complete order) (text : List ℕ) (n : ℕ)
           some,
         )
 
-    pub no_tick_left : Refused (whole_engines 1 later) (r ∷ []) more 10
+    pub no_tick_left : Gets (whole_engines 1 later) (r ∷ []) more 10
     no_tick_left =
         refused_by_10 (whole_engines 1 later) (r ∷ []) more m t d (alone 1) other free (omega arith) complete_later 0 (omega (arith, choices_alone 1))
         (omega (arith, span_tick, some_deadline other.job, other.made.its_deadline)) (λ c low _.

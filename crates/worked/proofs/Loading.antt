@@ -17,7 +17,7 @@ use Rattle.text.specs.declared.fault.Fault as faults
 use Rattle.text.specs.JobText.{Reads}
 use Rattle.text.specs.JobText as texts
 use Rattle.theory.specs.Pattern.{WellFormed}
-use Rattle.worked.specs.Cases.{Complete, Placed, Refused, Writes}
+use Rattle.worked.specs.Cases.{Complete, Placed, Gets, Writes}
 use Rattle.worked.proofs.Alike.{numbers_same}
 use Rattle.worked.proofs.Known.{asks, asks_formed, is_part, is_possible, plan_asks, plan_has, possible_short, span_of}
 use Rattle.worked.proofs.Same.{same_job, Told}
@@ -101,7 +101,7 @@ module _ (rules : Rules) (rs : List Resident) (text : List ℕ) (n t d : ℕ) (n
           none.unfit (asks_formed n t d ns j is rules.local c r.plan planned none.tag)
           (e, there, subst (FitsOn rules.supply rs e) (plan_asks n t d ns j is rules.local c r.plan planned none.tag) fits)
 
-      pub refused_by_10 : (c : ℕ) → c < numbers Choice ns → span_of ns c ≤ d → ((c : ℕ) → c < numbers Choice ns → span_of ns c ≤ d → Nowhere c) → Refused rules rs text 10
+      pub refused_by_10 : (c : ℕ) → c < numbers Choice ns → span_of ns c ≤ d → ((c : ℕ) → c < numbers Choice ns → span_of ns c ≤ d → Nowhere c) → Gets rules rs text 10
       refused_by_10 c is_choice short nowhere = record { never = none_placed nowhere; only = only } where
         only : (f : Refusal) → LoadRefused rules rs text f → refusal_number f ≡ 10
         only (Fault f) bad = absurd (no_fault text writes.job writes.reads f bad)
@@ -112,7 +112,7 @@ module _ (rules : Rules) (rs : List Resident) (text : List ℕ) (n t d : ℕ) (n
         only NotResident bad = absurd bad
         only ShortBuffer bad = absurd bad
 
-      pub refused_by_9 : ((c : ℕ) → c < numbers Choice ns → d < span_of ns c) → Refused rules rs text 9
+      pub refused_by_9 : ((c : ℕ) → c < numbers Choice ns → d < span_of ns c) → Gets rules rs text 9
       refused_by_9 long = record {
         never = λ r loaded.
             let j = r.plan.job in

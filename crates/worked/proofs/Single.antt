@@ -21,7 +21,7 @@ use Rattle.task.specs.declared.node.Node.{Node}
 use Rattle.task.specs.declared.node.Numbering.TheVariants.{Choice}
 use Rattle.task.specs.Picks.{numbers}
 use Rattle.theory.specs.Pattern.{Pattern, WellFormed}
-use Rattle.worked.specs.Cases.{Complete, Placed, Refused, Writes}
+use Rattle.worked.specs.Cases.{Complete, Placed, Gets, Writes}
 use Rattle.worked.proofs.Fitting.{climbs, fits_by, quickly, unfit_by}
 use Rattle.worked.proofs.Known.{asks, is_part, plan_parts, span_of}
 use Rattle.worked.proofs.Loading.{Nowhere, placed_by, refused_by_10, Taken, told}
@@ -53,7 +53,7 @@ module _ (rules : Rules) (text : List ℕ) (n t d : ℕ) (ns : List Node) (write
       → is_part rules.local d ns 0 0 ≡ true
       → (p : Pattern) → asks rules.local t d ns 0 0 ≡ p
       → (m : ℕ) → ((e : ℕ) → tag_of rules.tags e ≡ Some 0 → rules.supply e m < quickly (p ∷ []) m)
-      → Refused rules [] text 10
+      → Gets rules [] text 10
   refused_single complete one short has p is m more =
       refused_by_10 rules [] text n t d ns writes (none_there n) (omega arith) complete 0 (omega arith) short (λ c low _.
       let at : 0 ≡ c = omega arith in

@@ -7,18 +7,18 @@
 --   half order                     on one engine of tag 0 that serves every other tick
 --   two_sorts local order          on an engine of tag 0 that serves every tick, and one of tag 1 that serves every other
 --   after us                       the lower nodes us, as a node has them
---   alone n                        the nodes of a job of one sub-task of n ticks; all sub-tasks are of tag 0 where nothing else is said
+--   alone n                        one sub-task of n ticks; sub-tasks are of tag 0 where nothing else is said
 --   both n                         two sub-tasks of n ticks, without edges
---   either                         10 ticks, and then 30 or 40 as an arrival takes it
---   way                            200 ticks, then by a choice 300 on an engine of tag 1 or 600 on one of tag 0, then 100
+--   either                         10 ticks, and then 30 or 40, as each arrival takes it
+--   way                            200 ticks, then by choice 300 on an engine of tag 1 or 600 on one of tag 0, then 100
 --   Writes text n t d ns           the text is that of a job with the number n, the period t, the deadline d and the nodes ns
---   Placed rules rs text           no question refuses the text
---   Refused rules rs text q        no job of the text is placed, and the question q refuses it
---   IsPlaced rules t d ns          on an empty board each such job is placed, whatever its number and whatever the order of engines
---   IsRefused rules t d ns q       on an empty board the question q refuses each such job
---   Sheet rules n t d ns bs        each such job with the number n that is placed on an empty board has the sheet bs
+--   Placed rules rs text           beside the residents rs no question refuses the text
+--   Gets rules rs text q           no job of the text is placed there, and the question q refuses it
+--   AllPlaced rules t d ns         on an empty board each such job is placed, whatever its number and the order of engines
+--   AllGet rules t d ns q          on an empty board the question q refuses each such job
+--   AllShow rules n t d ns bs      each such job with the number n that is placed on an empty board has the sheet bs
 --   WorkedCases                    the cases
-use Rattle.std.specs.Prelude.{◌≡◌, ℕ, ◌≢◌, Bool, true, false, List, [], ◌∷◌, map, ◌==◌, codes, slice_index_or}
+use Rattle.std.specs.Prelude.{◌≡◌, ℕ, ◌≢◌, Bool, true, false, List, [], ◌∷◌, map, ◌==◌, codes, replicate, slice_index_or}
 use Rattle.std.specs.List.{list_any, range_with_len}
 use Rattle.board.specs.declared.refusal.Refusal.{Refusal}
 use Rattle.board.specs.Loading.{IsLoaded, LoadRefused}
@@ -33,7 +33,6 @@ use Rattle.sheet.specs.Sheet.{sheet_of}
 use Rattle.slack.specs.declared.rule.Position.{Position}
 use Rattle.slack.specs.Even.{even}
 use Rattle.slack.specs.Proportional.{proportional}
-use Rattle.std.specs.Prelude.{replicate}
 use Rattle.task.specs.declared.job.Job.{Job}
 use Rattle.task.specs.declared.node.Node.{Node}
 use Rattle.task.specs.declared.node.Node.TheVariants.{SubTask, Alternative, Conditional}
@@ -95,40 +94,40 @@ pub record Writes (text : List ℕ) (number period deadline : ℕ) (ns : List No
 abbrev pub Placed : Rules → List Resident → List ℕ → Type 0
 Placed rules rs text = (f : Refusal) → LoadRefused rules rs text f → ⊥
 
-pub record Refused (rules : Rules) (rs : List Resident) (text : List ℕ) (q : ℕ) : Type 0 where
+pub record Gets (rules : Rules) (rs : List Resident) (text : List ℕ) (q : ℕ) : Type 0 where
   pub never : (r : Resident) → IsLoaded rules rs text r → ⊥
   pub only : (f : Refusal) → LoadRefused rules rs text f → refusal_number f ≡ q
 
-abbrev pub IsPlaced : (Order → Rules) → ℕ → ℕ → List Node → Type 0
-IsPlaced rules t d ns = (order : Order) → Complete order → (text : List ℕ) (n : ℕ) → Writes text n t d ns → Placed (rules order) [] text
+abbrev pub AllPlaced : (Order → Rules) → ℕ → ℕ → List Node → Type 0
+AllPlaced rules t d ns = (order : Order) → Complete order → (text : List ℕ) (n : ℕ) → Writes text n t d ns → Placed (rules order) [] text
 
-abbrev pub IsRefused : (Order → Rules) → ℕ → ℕ → List Node → ℕ → Type 0
-IsRefused rules t d ns q = (order : Order) → Complete order → (text : List ℕ) (n : ℕ) → Writes text n t d ns → Refused (rules order) [] text q
+abbrev pub AllGet : (Order → Rules) → ℕ → ℕ → List Node → ℕ → Type 0
+AllGet rules t d ns q = (order : Order) → Complete order → (text : List ℕ) (n : ℕ) → Writes text n t d ns → Gets (rules order) [] text q
 
-abbrev pub Sheet : (Order → Rules) → ℕ → ℕ → ℕ → List Node → List ℕ → Type 0
-Sheet rules n t d ns bs =
+abbrev pub AllShow : (Order → Rules) → ℕ → ℕ → ℕ → List Node → List ℕ → Type 0
+AllShow rules n t d ns bs =
     (order : Order) → Complete order → (text : List ℕ) → Writes text n t d ns
     → (r : Resident) → IsLoaded (rules order) [] text r → sheet_of r ≡ bs
 
 pub record WorkedCases : Type 0 where
   -- a job takes every tick of an engine
-  pub every_tick : IsPlaced (whole 1) 100 100 (alone 100)
+  pub every_tick : AllPlaced (whole 1) 100 100 (alone 100)
   -- and then there is no tick left for any other
   pub no_tick_left :
       (order later : Order) → Complete order → Complete later
       → (text more : List ℕ) (n m t d : ℕ) → Writes text n 100 100 (alone 100) → Writes more m t d (alone 1) → n ≢ m
-      → (r : Resident) → IsLoaded (whole 1 order) [] text r → Refused (whole 1 later) (r ∷ []) more 10
+      → (r : Resident) → IsLoaded (whole 1 order) [] text r → Gets (whole 1 later) (r ∷ []) more 10
   -- of two ticks in a row one is served, but maybe not the first
-  pub half_in_time : IsPlaced half 2 2 (alone 1)
-  pub half_too_late : IsRefused half 1 1 (alone 1) 10
+  pub half_in_time : AllPlaced half 2 2 (alone 1)
+  pub half_too_late : AllGet half 1 1 (alone 1) 10
   -- the sub-tasks of one tag share an engine, so others do not help
-  pub one_tick_short : (count : ℕ) → IsRefused (whole count) 100 99 (both 50) 10
-  pub just_room : IsPlaced (whole 1) 100 100 (both 50)
+  pub one_tick_short : (count : ℕ) → AllGet (whole count) 100 99 (both 50) 10
+  pub just_room : AllPlaced (whole 1) 100 100 (both 50)
   -- an arrival takes one way of a conditional, and needs no room for the other
-  pub one_way : IsPlaced (whole 1) 50 50 either
-  pub no_choice : IsRefused (whole 1) 50 49 either 9
+  pub one_way : AllPlaced (whole 1) 50 50 either
+  pub no_choice : AllGet (whole 1) 50 49 either 9
   -- the first choice does not fit on the slower engine, the second does on the other
-  pub second_choice : IsPlaced (two_sorts proportional) 1200 1000 way
-  pub second_choice_even : IsPlaced (two_sorts even) 1200 1000 way
-  pub sheet : Sheet (two_sorts proportional) 7 1200 1000 way (codes "job=7\nchoice=1\nnode=0,0,0,222\nnode=3,0,222,888\nnode=4,0,888,1000\n")
-  pub sheet_even : Sheet (two_sorts even) 7 1200 1000 way (codes "job=7\nchoice=1\nnode=0,0,0,233\nnode=3,0,233,866\nnode=4,0,866,1000\n")
+  pub second_choice : AllPlaced (two_sorts proportional) 1200 1000 way
+  pub second_choice_even : AllPlaced (two_sorts even) 1200 1000 way
+  pub sheet : AllShow (two_sorts proportional) 7 1200 1000 way (codes "job=7\nchoice=1\nnode=0,0,0,222\nnode=3,0,222,888\nnode=4,0,888,1000\n")
+  pub sheet_even : AllShow (two_sorts even) 7 1200 1000 way (codes "job=7\nchoice=1\nnode=0,0,0,233\nnode=3,0,233,866\nnode=4,0,866,1000\n")
