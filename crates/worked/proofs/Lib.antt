@@ -6,6 +6,7 @@ pub mod Sitting
 pub mod Loading
 pub mod Single
 pub mod Parts
+pub mod Texts
 pub mod Full
 pub mod Chosen
 pub mod Cases
