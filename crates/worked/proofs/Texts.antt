@@ -1,9 +1,9 @@
 -- Numbers and nodes that make a job have a text.
-use Rattle.std.proofs.Common.{◌≡◌, ℕ, zero, suc, ◌+◌, ◌-◌, ◌%◌, ◌<◌, ◌≤◌, Bool, true, false, not, ◌&&◌, leb, List, [], ◌∷◌, ◌++◌, length, take, get_or, replicate, decimal, refl, sym, ap, ◌∙◌, subst, inl, inr, arith, length-append}
+use Rattle.std.proofs.Common.{◌≡◌, ℕ, zero, suc, ◌+◌, ◌-◌, ◌%◌, ◌<◌, ◌≤◌, Bool, true, false, cond, not, ◌&&◌, leb, List, [], ◌∷◌, ◌++◌, length, take, get_or, replicate, decimal, refl, sym, ap, ◌∙◌, subst, inl, inr, arith, length-append}
 use Rattle.std.specs.Prelude.{codes}
 use Rattle.std.specs.List.{AllByRecursion}
 use Rattle.std.proofs.Math.Seq.{take-append_seam}
-use Rattle.std.proofs.lemmas.Bool.{and_parts, cases_eq, cases_lt, false≢true, leb-true, not-true}
+use Rattle.std.proofs.lemmas.Bool.{and_from, and_parts, cases_eq, cases_lt, false≢true, le-leb, leb-true, not-true}
 use Rattle.std.proofs.lemmas.Fmt.{length-decimal-le}
 use Rattle.std.proofs.lemmas.List.{get_or_past, length-replicate}
 use Rattle.few.specs.declared.few.Few.{Few}
@@ -13,17 +13,17 @@ use Rattle.task.specs.declared.node.Node.{Node}
 use Rattle.task.specs.declared.node.Node.TheVariants.{SubTask, Alternative, Conditional}
 use Rattle.task.specs.declared.ranges.Field.TheVariants.{Count, Deadline, Number, Period, Tag, Work}
 use Rattle.task.specs.Flaws.{graph, MadeOf}
-use Rattle.task.specs.Graph.{at, Upward}
-use Rattle.task.specs.Node.{after, missing}
+use Rattle.task.specs.Graph.{at, ins, outs, Upward}
+use Rattle.task.specs.Node.{after, is_fork, missing}
 use Rattle.task.specs.Nodes.{Below, few_forks, fork_fits, ForksFit, NumbersFit}
 use Rattle.task.specs.Ranges.{fits, numbers_fit}
 use Rattle.text.specs.declared.key.Key as keys
 use Rattle.text.specs.declared.value.Kind as kinds
-use Rattle.text.specs.JobText.{node_slots, nodes_slots, slots, Written}
+use Rattle.text.specs.JobText.{node_slots, nodes_slots}
 use Rattle.text.specs.Slots.{InRange, Sized, Slot, slot, text_of, Whole}
 use Rattle.text.specs.Value.{Listed, listed, Numeral, places, places_from, Rising, Small}
 use Rattle.text.proofs.Drafts.{made_reads}
-use Rattle.worked.specs.Cases.{Writes}
+use Rattle.worked.specs.Cases.{Writes, Written}
 
 -- no place from v on is true
 unfoldable pub falls : ℕ → List Bool → Bool
@@ -68,15 +68,24 @@ fork_at ns (suc k) ok v low =
       | inr differ ↦ fork_at ns k before v (omega arith)
     ]
 
-pub record Sensible (n t d : ℕ) (ns : List Node) : Type 0 where
-  pub numbered : fits (Number n) ≡ true
+-- the lines of a job after that of its number
+abbrev pub lines_after : ℕ → ℕ → List Node → List Slot
+lines_after t d ns =
+    slot keys.TheVariants.Period (decimal t)
+    ∷ slot (keys.TheVariants.Deadline t) (decimal d)
+    ∷ slot keys.TheVariants.Nodes (decimal (length ns))
+    ∷ nodes_slots 0 ns
+
+-- with any number these make a job, whose text is short
+pub record Sensible (t d : ℕ) (ns : List Node) : Type 0 where
   pub periodic : fits (Period t) ≡ true
   pub due : fits (Deadline t d) ≡ true
   pub counted : fits (Count (length ns)) ≡ true
   pub nodes : nodes_fit 0 ns ≡ true
   pub forks : forks_fit ns (length ns) ≡ true
   pub few : few_forks ns ≡ true
-  pub short : t ≤ 14400
+  pub low : t ≤ 14400
+  pub brief : length (text_of (lines_after t d ns)) ≤ 4000
 
 -- the places of a table rise, and lie where its true places do
 loosen : (k : ℕ) (xs : List ℕ) → Rising (suc k) xs → Rising k xs
@@ -127,7 +136,7 @@ nodes_ranged v (n ∷ ns) few ok =
     let (fit, below) = and_parts (numbers_fit n) (falls v (after n)) here in
     all_join (node_slots v n) (nodes_slots (suc v) ns) (node_ranged v n (omega arith) fit (falls_below v (after n) below)) (nodes_ranged (suc v) ns (omega arith) later)
 
-module _ (n t d : ℕ) (ns : List Node) (is : Sensible n t d ns) where
+module _ (t d : ℕ) (ns : List Node) (is : Sensible t d ns) (n : ℕ) (numbered : fits (Number n) ≡ true) where
   its_few : length ns ≤ 24
   its_few = leb-true (length ns) 24 (and_parts (leb 1 (length ns)) (leb (length ns) 24) is.counted).1
 
@@ -151,7 +160,7 @@ module _ (n t d : ℕ) (ns : List Node) (is : Sensible n t d ns) where
   forked : ForksFit ns
   forked v = elim (cases_lt v (length ns)) [
     | inl low ↦ fork_at ns (length ns) is.forks v low
-    | inr past ↦ ap (λ m. Rattle.std.proofs.Common.cond (Rattle.task.specs.Node.is_fork m) (leb 1 (Rattle.task.specs.Graph.ins ns v) && (leb 2 (Rattle.task.specs.Graph.outs ns v) && leb (Rattle.task.specs.Graph.outs ns v) 3)) true) (get_or_past ns v missing past)
+    | inr past ↦ ap (λ m. cond (is_fork m) (leb 1 (ins ns v) && (leb 2 (outs ns v) && leb (outs ns v) 3)) true) (get_or_past ns v missing past)
   ]
 
   its_job : Job
@@ -160,7 +169,7 @@ module _ (n t d : ℕ) (ns : List Node) (is : Sensible n t d ns) where
     period = t;
     deadline = d;
     nodes = its_nodes;
-    numbered = is.numbered;
+    numbered = numbered;
     periodic = is.periodic;
     due = is.due;
     counted = subst (λ (l : List Node). fits (Count (length l)) ≡ true) (sym kept) is.counted;
@@ -170,26 +179,41 @@ module _ (n t d : ℕ) (ns : List Node) (is : Sensible n t d ns) where
     few = subst (λ (l : List Node). few_forks l ≡ true) (sym kept) is.few;
   }
 
-  pub its_lines : List Slot
-  its_lines = slots (record { number = n; period = t; deadline = d; nodes = ns })
+  abbrev its_lines : List Slot
+  its_lines = slot keys.TheVariants.Job (decimal n) ∷ lines_after t d ns
 
   made : MadeOf n t d ns its_job
   unfolding its_job
   made = record { its_number = refl; its_period = refl; its_deadline = refl; its_nodes = kept }
 
   all_ranged : AllByRecursion InRange its_lines
-  unfolding its_lines
   all_ranged =
-      let small = leb-true n 65535 (and_parts (leb 1 n) (leb n 65535) is.numbered).1 in
+      let small = leb-true n 65535 (and_parts (leb 1 n) (leb n 65535) numbered).1 in
       let within = leb-true d t (and_parts (leb 1 d) (leb d t) is.due).1 in
-      let short = is.short in
+      let short = is.low in
       let few = its_few in
-      ((n, numeral n small, is.numbered), ((t, numeral t (omega arith), is.periodic), ((d, numeral d (omega arith), is.due), ((length ns, numeral (length ns) (omega arith), is.counted), nodes_ranged 0 ns (omega arith) is.nodes))))
+      ((n, numeral n small, numbered), ((t, numeral t (omega arith), is.periodic), ((d, numeral d (omega arith), is.due), ((length ns, numeral (length ns) (omega arith), is.counted), nodes_ranged 0 ns (omega arith) is.nodes))))
 
-  pub writes_lines : Sized (text_of its_lines) → Writes (text_of its_lines) n t d ns
-  unfolding its_lines
-  writes_lines sized = record {
+  sized : Sized (text_of its_lines)
+  sized =
+      let small = leb-true n 65535 (and_parts (leb 1 n) (leb n 65535) numbered).1 in
+      let digits = length-decimal-le 5 n (omega arith) (omega arith) (omega arith) in
+      let rest = text_of (lines_after t d ns) in
+      let front = length-append (codes "job=") (decimal n ++ (10 ∷ rest)) in
+      let number = length-append (decimal n) (10 ∷ rest) in
+      let key : length (codes "job=") ≡ 4 = refl in
+      let brief = is.brief in
+      let all : length (text_of its_lines) ≡ 4 + (length (decimal n) + (1 + length rest)) = omega arith in
+      (omega arith, omega arith)
+
+  pub writes_lines : Writes (text_of its_lines) n t d ns
+  writes_lines = record {
     job = its_job;
     reads = made_reads (text_of its_lines) (record { number = n; period = t; deadline = d; count = length ns }) ns its_job sized (record { written = refl; ranged = all_ranged }) made;
     made = made;
   }
+
+pub written : (t d : ℕ) (ns : List Node) → Sensible t d ns → Written t d ns
+written t d ns is n some few =
+    let numbered = and_from (leb 1 n) (leb n 65535) (le-leb 1 n some) (le-leb n 65535 few) in
+    (text_of (slot keys.TheVariants.Job (decimal n) ∷ lines_after t d ns), writes_lines t d ns is n numbered)

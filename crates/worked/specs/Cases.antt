@@ -12,13 +12,14 @@
 --   either                         10 ticks, and then 30 or 40, as each arrival takes it
 --   way                            200 ticks, then by choice 300 on an engine of tag 1 or 600 on one of tag 0, then 100
 --   Writes text n t d ns           the text is that of a job with the number n, the period t, the deadline d and the nodes ns
+--   Written t d ns                 with each number there is such a text
 --   Placed rules rs text           beside the residents rs no question refuses the text
 --   Gets rules rs text q           no job of the text is placed there, and the question q refuses it
 --   AllPlaced rules t d ns         on an empty board each such job is placed, whatever its number and the order of engines
 --   AllGet rules t d ns q          on an empty board the question q refuses each such job
 --   AllShow rules n t d ns bs      each such job with the number n that is placed on an empty board has the sheet bs
 --   WorkedCases                    the cases
-use Rattle.std.specs.Prelude.{◌≡◌, ℕ, ◌≢◌, Bool, true, false, List, [], ◌∷◌, map, ◌==◌, codes, replicate, slice_index_or}
+use Rattle.std.specs.Prelude.{◌≡◌, ℕ, ◌≤◌, ◌≢◌, Bool, true, false, List, [], ◌∷◌, map, ◌==◌, codes, replicate, slice_index_or}
 use Rattle.std.specs.List.{list_any, range_with_len}
 use Rattle.board.specs.declared.refusal.Refusal.{Refusal}
 use Rattle.board.specs.Loading.{IsLoaded, LoadRefused}
@@ -90,6 +91,9 @@ pub record Writes (text : List ℕ) (number period deadline : ℕ) (ns : List No
   pub job : Job
   pub reads : Reads text job
   pub made : MadeOf number period deadline ns job
+
+abbrev pub Written : ℕ → ℕ → List Node → Type 0
+Written t d ns = (n : ℕ) → 1 ≤ n → n ≤ 65535 → (text : List ℕ) × Writes text n t d ns
 
 abbrev pub Placed : Rules → List Resident → List ℕ → Type 0
 Placed rules rs text = (f : Refusal) → LoadRefused rules rs text f → ⊥
