@@ -1,5 +1,5 @@
 -- Numbers and nodes that make a job have a text.
-use Rattle.std.proofs.Common.{◌≡◌, ℕ, zero, suc, ◌+◌, ◌-◌, ◌%◌, ◌<◌, ◌≤◌, Bool, true, false, cond, not, ◌&&◌, leb, List, [], ◌∷◌, ◌++◌, length, take, get_or, replicate, decimal, refl, sym, ap, ◌∙◌, subst, inl, inr, arith, length-append}
+use Rattle.std.proofs.Common.{◌≡◌, ℕ, zero, suc, ◌+◌, ◌-◌, ◌<◌, ◌≤◌, Bool, true, false, cond, not, ◌&&◌, leb, List, [], ◌∷◌, ◌++◌, length, get_or, replicate, decimal, refl, sym, ap, ◌∙◌, subst, inl, inr, arith, length-append}
 use Rattle.std.specs.Prelude.{codes}
 use Rattle.std.specs.List.{AllByRecursion}
 use Rattle.std.proofs.Math.Seq.{take-append_seam}
@@ -12,7 +12,7 @@ use Rattle.task.specs.declared.job.Job.{Job}
 use Rattle.task.specs.declared.node.Node.{Node}
 use Rattle.task.specs.declared.node.Node.TheVariants.{SubTask, Alternative, Conditional}
 use Rattle.task.specs.declared.ranges.Field.TheVariants.{Count, Deadline, Number, Period, Tag, Work}
-use Rattle.task.specs.Flaws.{graph, MadeOf}
+use Rattle.task.specs.Flaws.{MadeOf}
 use Rattle.task.specs.Graph.{at, ins, outs, Upward}
 use Rattle.task.specs.Node.{after, is_fork, missing}
 use Rattle.task.specs.Nodes.{Below, few_forks, fork_fits, ForksFit, NumbersFit}
@@ -20,7 +20,7 @@ use Rattle.task.specs.Ranges.{fits, numbers_fit}
 use Rattle.text.specs.declared.key.Key as keys
 use Rattle.text.specs.declared.value.Kind as kinds
 use Rattle.text.specs.JobText.{node_slots, nodes_slots}
-use Rattle.text.specs.Slots.{InRange, Sized, Slot, slot, text_of, Whole}
+use Rattle.text.specs.Slots.{InRange, Sized, Slot, slot, text_of}
 use Rattle.text.specs.Value.{Listed, listed, Numeral, places, places_from, Rising, Small}
 use Rattle.text.proofs.Drafts.{made_reads}
 use Rattle.worked.specs.Cases.{Writes, Written}
@@ -84,8 +84,8 @@ pub record Sensible (t d : ℕ) (ns : List Node) : Type 0 where
   pub nodes : nodes_fit 0 ns ≡ true
   pub forks : forks_fit ns (length ns) ≡ true
   pub few : few_forks ns ≡ true
-  pub low : t ≤ 14400
-  pub brief : length (text_of (lines_after t d ns)) ≤ 4000
+  pub low : leb t 14400 ≡ true
+  pub brief : leb (length (text_of (lines_after t d ns))) 4000 ≡ true
 
 -- the places of a table rise, and lie where its true places do
 loosen : (k : ℕ) (xs : List ℕ) → Rising (suc k) xs → Rising k xs
@@ -190,7 +190,7 @@ module _ (t d : ℕ) (ns : List Node) (is : Sensible t d ns) (n : ℕ) (numbered
   all_ranged =
       let small = leb-true n 65535 (and_parts (leb 1 n) (leb n 65535) numbered).1 in
       let within = leb-true d t (and_parts (leb 1 d) (leb d t) is.due).1 in
-      let short = is.low in
+      let short = leb-true t 14400 is.low in
       let few = its_few in
       ((n, numeral n small, numbered), ((t, numeral t (omega arith), is.periodic), ((d, numeral d (omega arith), is.due), ((length ns, numeral (length ns) (omega arith), is.counted), nodes_ranged 0 ns (omega arith) is.nodes))))
 
@@ -202,7 +202,7 @@ module _ (t d : ℕ) (ns : List Node) (is : Sensible t d ns) (n : ℕ) (numbered
       let front = length-append (codes "job=") (decimal n ++ (10 ∷ rest)) in
       let number = length-append (decimal n) (10 ∷ rest) in
       let key : length (codes "job=") ≡ 4 = refl in
-      let brief = is.brief in
+      let brief = leb-true (length rest) 4000 is.brief in
       let all : length (text_of its_lines) ≡ 4 + (length (decimal n) + (1 + length rest)) = omega arith in
       (omega arith, omega arith)
 

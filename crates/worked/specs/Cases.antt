@@ -114,6 +114,9 @@ AllShow rules n t d ns bs =
     → (r : Resident) → IsLoaded (rules order) [] text r → sheet_of r ≡ bs
 
 pub record WorkedCases : Type 0 where
+  -- there are such jobs
+  pub written : Written 100 100 (alone 100) × Written 2 2 (alone 1) × Written 1 1 (alone 1) × Written 100 99 (both 50) × Written 100 100 (both 50)
+      × Written 50 50 either × Written 50 49 either × Written 1200 1000 way
   -- a job takes every tick of an engine
   pub every_tick : AllPlaced (whole 1) 100 100 (alone 100)
   -- and then there is no tick left for any other
@@ -130,8 +133,9 @@ pub record WorkedCases : Type 0 where
   -- an arrival takes one way of a conditional, and needs no room for the other
   pub one_way : AllPlaced (whole 1) 50 50 either
   pub no_choice : AllGet (whole 1) 50 49 either 9
-  -- the first choice does not fit on the slower engine, the second does on the other
+  -- the first choice does not fit on the slower engine, the second does on the other; so says the sheet
   pub second_choice : AllPlaced (two_sorts proportional) 1200 1000 way
   pub second_choice_even : AllPlaced (two_sorts even) 1200 1000 way
+  pub way_text : Writes (codes "job=7\nperiod=1200\ndeadline=1000\nnodes=5\nkind=subtask\ntag=0\nticks=200\nafter=-\nkind=alternative\nafter=0\nkind=subtask\ntag=1\nticks=300\nafter=1\nkind=subtask\ntag=0\nticks=600\nafter=1\nkind=subtask\ntag=0\nticks=100\nafter=2,3\n") 7 1200 1000 way
   pub sheet : AllShow (two_sorts proportional) 7 1200 1000 way (codes "job=7\nchoice=1\nnode=0,0,0,222\nnode=3,0,222,888\nnode=4,0,888,1000\n")
   pub sheet_even : AllShow (two_sorts even) 7 1200 1000 way (codes "job=7\nchoice=1\nnode=0,0,0,233\nnode=3,0,233,866\nnode=4,0,866,1000\n")
