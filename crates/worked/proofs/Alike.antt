@@ -2,7 +2,7 @@
 use Rattle.std.proofs.Common.{◌≡◌, ℕ, zero, suc, ◌-◌, ◌/◌, ◌%◌, Bool, false, cond, not, eqb, ◌&&◌, ◌||◌, List, [], ◌∷◌, ◌++◌, length, map, get_or, refl, sym, ap, ◌∙◌}
 use Rattle.std.proofs.Math.Path.{fun_ext}
 use Rattle.computed.specs.Asked.{pattern, task, tasks, tasks_below, tasks_by, tasks_of}
-use Rattle.computed.specs.Graph.{all_reached, concrete, concrete_of, is_led, kept, led, reached, reached_of, rows}
+use Rattle.computed.specs.Graph.{all_reached, concrete, concrete_of, graph_of, kept, led, reached, reached_of, rows}
 use Rattle.computed.specs.Lengths.{lengths, lengths_by, weights}
 use Rattle.computed.specs.Tables.{each, rising, some_below}
 use Rattle.computed.specs.Windows.{ends, opens, windows, windows_by, windows_of}
@@ -24,7 +24,7 @@ use Rattle.window.specs.declared.layout.Measure.{Measure}
 use Rattle.window.specs.declared.layout.Measure.TheVariants.{Work, Count}
 use Rattle.window.specs.declared.layout.Window.{Window}
 use Rattle.window.specs.Path.{weigh}
-use Rattle.window.specs.Windows.{position}
+use Rattle.window.specs.Windows.{closed, position}
 use Rattle.worked.proofs.Same.{Alike, bare}
 
 -- what a node says, its edges left out
@@ -99,7 +99,7 @@ module _ (ns ms : List Node) (long : length ns ≡ length ms) (alike : (v : ℕ)
   concrete_same c = ap (concrete_of ns) (rows_same (by_choice ns c) (by_choice ms c) (by_choice_same c)) ∙ of_same (kept ms c) where
     of_same : (k : List (List Bool)) → concrete_of ns k ≡ concrete_of ms k
     of_same k =
-        let F : List Bool → Concrete = λ l. Rattle.computed.specs.Graph.graph_of k l in
+        let F : List Bool → Concrete = λ l. graph_of k l in
         ap F (led_same (leads k))
 
   reached_same : (c : ℕ) → reached ns c ≡ reached ms c
@@ -144,7 +144,7 @@ module _ (ns ms : List Node) (long : length ns ≡ length ms) (alike : (v : ℕ)
   below_same ws s (suc n) =
       let work : ticks (at ns n) ≡ ticks (at ms n) = ap (λ (f : ℕ → ℕ). f n) (by_bare ticks ticks_bare) in
       ap (λ l. l ++ cond (s n) (task ns ws n ∷ []) []) (below_same ws s n)
-      ∙ ap (λ w. tasks_below ms ws s n ++ cond (s n) (record { node = n; window = get_or ws n Rattle.window.specs.Windows.closed; ticks = w } ∷ []) []) work
+      ∙ ap (λ w. tasks_below ms ws s n ++ cond (s n) (record { node = n; window = get_or ws n closed; ticks = w } ∷ []) []) work
 
   tasks_of_same : (t : Node → Bool) → ((n : Node) → t n ≡ t (bare n)) → (g : Concrete) (ws : List Window) → tasks_of ns g ws t ≡ tasks_of ms g ws t
   tasks_of_same t same g ws =

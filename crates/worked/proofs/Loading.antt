@@ -12,6 +12,7 @@ use Rattle.task.specs.declared.job.Job.{Job}
 use Rattle.task.specs.declared.node.Node.{Node}
 use Rattle.task.specs.declared.node.Numbering.TheVariants.{Choice}
 use Rattle.task.specs.Flaws.{graph}
+use Rattle.task.specs.Graph.{at}
 use Rattle.task.specs.Picks.{numbers}
 use Rattle.text.specs.declared.fault.Fault as faults
 use Rattle.text.specs.JobText.{Reads}
@@ -20,7 +21,7 @@ use Rattle.theory.specs.Pattern.{WellFormed}
 use Rattle.worked.specs.Cases.{Complete, Placed, Gets, Writes}
 use Rattle.worked.proofs.Alike.{numbers_same}
 use Rattle.worked.proofs.Known.{asks, asks_formed, is_part, is_possible, plan_asks, plan_has, possible_short, span_of}
-use Rattle.worked.proofs.Same.{same_job, Told}
+use Rattle.worked.proofs.Same.{Alike, same_job, Told}
 use Rattle.worked.proofs.Sitting.{part_sits}
 
 -- the text of a job has no fault
@@ -43,7 +44,7 @@ module _ (rules : Rules) (rs : List Resident) (text : List ℕ) (n t d : ℕ) (n
         its_period = same.its_period ∙ made.its_period;
         its_deadline = same.its_deadline ∙ made.its_deadline;
         long = same.long ∙ ap length made.its_nodes;
-        alike = subst (λ (l : List Node). (i : ℕ) → Rattle.worked.proofs.Same.Alike (Rattle.task.specs.Graph.at (graph j) i) (Rattle.task.specs.Graph.at l i)) made.its_nodes same.alike;
+        alike = subst (λ (l : List Node). (i : ℕ) → Alike (at (graph j) i) (at l i)) made.its_nodes same.alike;
       }
 
   pub numbers_told : (j : Job) → Reads text j → numbers Choice (graph j) ≡ numbers Choice ns

@@ -1,13 +1,13 @@
 -- Jobs whose one part is of tag 0, on a board without jobs.
 use Rattle.std.proofs.Common.{◌≡◌, ℕ, ◌+◌, ◌*◌, ◌%◌, ◌<◌, ◌≤◌, true, eqb, List, [], ◌∷◌, map, filter, sym, ap, ◌∙◌, subst, arith}
 use Rattle.std.specs.Prelude.{Some}
-use Rattle.std.specs.List.{All, AllByRecursion}
+use Rattle.std.specs.List.{All}
 use Rattle.std.proofs.lemmas.Bool.{eq-eqb}
 use Rattle.std.proofs.lemmas.List.{append-nil}
 use Rattle.std.proofs.lemmas.List.Concat.{flat_map-cons}
 use Rattle.std.proofs.lemmas.List.Elements.{All-head, All-nil}
 use Rattle.board.specs.Asked.{asked_by, asked_on}
-use Rattle.board.specs.Loading.{IsLoaded}
+use Rattle.board.specs.Loading.{Free, IsLoaded}
 use Rattle.board.specs.Placing.{Rules, Sits}
 use Rattle.engine.specs.Roster.{tag_of}
 use Rattle.fit.specs.Fits.{Fits}
@@ -16,7 +16,6 @@ use Rattle.plan.specs.Pattern.{part_pattern}
 use Rattle.resident.specs.declared.resident.Resident.{Resident}
 use Rattle.resident.specs.declared.resident.Seat.{Seat}
 use Rattle.resident.specs.Seats.{all_tags}
-use Rattle.resident.specs.Resident.{number_of}
 use Rattle.task.specs.declared.node.Node.{Node}
 use Rattle.task.specs.declared.node.Numbering.TheVariants.{Choice}
 use Rattle.task.specs.Picks.{numbers}
@@ -27,7 +26,8 @@ use Rattle.worked.proofs.Known.{asks, is_part, plan_parts, span_of}
 use Rattle.worked.proofs.Loading.{Nowhere, placed_by, refused_by_10, Taken, told}
 use Rattle.worked.proofs.Sitting.{one_seat, seat_where}
 
-pub none_there : (n : ℕ) → All (λ (r : Resident). Rattle.std.specs.Prelude.◌≢◌ (number_of r) n) []
+-- on such a board no number is taken
+pub none_there : (n : ℕ) → Free [] n
 none_there n = All-nil _
 
 module _ (rules : Rules) (text : List ℕ) (n t d : ℕ) (ns : List Node) (writes : Writes text n t d ns) where

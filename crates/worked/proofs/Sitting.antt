@@ -1,5 +1,5 @@
 -- On which engines the parts of a placed job sit.
-use Rattle.std.proofs.Common.{◌≡◌, ℕ, zero, suc, ◌+◌, ◌<◌, ◌≤◌, Bool, true, false, cond, eqb, List, [], ◌∷◌, map, length, filter, Option, Some, None, refl, sym, ap, ◌∙◌, subst, inl, inr, ◌⊎◌, arith}
+use Rattle.std.proofs.Common.{◌≡◌, ℕ, zero, suc, ◌+◌, ◌≤◌, Bool, true, false, cond, eqb, List, [], ◌∷◌, map, length, get_or, Option, Some, None, refl, ap, ◌∙◌, subst, inl, inr, ◌⊎◌, arith}
 use Rattle.std.specs.Prelude.{slice_get}
 use Rattle.std.specs.List.{All, list_any}
 use Rattle.std.proofs.lemmas.Bool.{cases_Bool, cases_eq, eqb-true, eq-eqb}
@@ -67,7 +67,7 @@ part_sits rules complete rs j c r placed g few has =
 -- a job of one part has one seat, on an engine of its tag
 pub one_seat : (ss : List Seat) (g : ℕ) → map (λ (s : Seat). s.tag) ss ≡ g ∷ [] → (s : Seat) × (ss ≡ s ∷ []) × (s.tag ≡ g)
 one_seat [] g are = absurd (omega (arith, ap length are))
-one_seat (s ∷ []) g are = (s, refl, ap (λ (l : List ℕ). Rattle.std.proofs.Common.get_or l 0 0) are)
+one_seat (s ∷ []) g are = (s, refl, ap (λ (l : List ℕ). get_or l 0 0) are)
 one_seat (s ∷ t ∷ ss) g are = absurd (omega (arith, ap length are))
 
 pub seat_where : (rules : Rules) → Complete rules.listing → (rs : List Resident) (p : Plan) (s : Seat) → Sits rules rs p s → tag_of rules.tags s.engine ≡ Some s.tag
