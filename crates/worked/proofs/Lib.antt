@@ -1,0 +1,12 @@
+pub mod Same
+pub mod Alike
+pub mod Known
+pub mod Fitting
+pub mod Sitting
+pub mod Loading
+pub mod Single
+pub mod Parts
+pub mod Texts
+pub mod Full
+pub mod Chosen
+pub mod Cases
