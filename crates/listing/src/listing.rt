@@ -4,6 +4,7 @@ ghost use Rattle.board.specs.Residents.{jobs};
 ghost use Rattle.listing.specs.Listing.{Answered, Lists, Opens, Stops};
 ghost use Rattle.listing.specs.Rules.{seat_rules};
 ghost use Rattle.std.specs.Option.{option_map};
+ghost use Rattle.worked.specs.Cases.{WorkedCases};
 
 use crate::answer::{SeatBoard, answer};
 use board::board::Board;
@@ -54,7 +55,8 @@ fn answers(heap: Global, board: &mut SeatBoard, texts: Option<&[u8]>) -> Result<
 
 /// What the seating program prints of its input: a platform text and job texts, parted by empty lines.
 pub fn listing(heap: Global, input: &[u8]) -> Result<String, AllocError>
-    ensures { IfOk result (λ s. Lists input.now (string_bytes s)) }
+    ensures lists { IfOk result (λ s. Lists input.now (string_bytes s)) }
+    ensures worked { WorkedCases }
 {
     match open(input) {
         Ok(Opened { platform, texts }) => {

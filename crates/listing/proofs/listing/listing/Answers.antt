@@ -5,10 +5,11 @@ use Rattle.listing.specs.Rules.{seat_rules}
 use Rattle.listing.proofs.Making.{made_map}
 use Rattle.resident.specs.declared.resident.Resident.{Resident}
 use Rattle.std.specs.Option.{option_map}
+use Rattle.worked.proofs.Cases.{worked_cases}
 use Rattle.listing.proofs.listing.listing.Goals as goal
 
-pub returns-in-Ok : goal.returns-in-Ok
-returns-in-Ok c =
+pub returns-in-Ok-clause-lists : goal.returns-in-Ok-clause-lists
+returns-in-Ok-clause-lists c =
     let opened = c.in-Ok.field-0 in
     let texts = option_map (λ x. x.now) opened.texts in
     let made = c.new-board.ensures in
@@ -21,3 +22,9 @@ returns-in-Ok c =
           (subst (λ (rs : List Resident). Answered (seat_rules c.new-board.result.platform) rs texts (string_bytes s)) made.3 p),
     ))
     c.answers.ensures
+
+pub returns-in-Ok-clause-worked : goal.returns-in-Ok-clause-worked
+returns-in-Ok-clause-worked c = worked_cases
+
+pub returns-in-Err-clause-worked : goal.returns-in-Err-clause-worked
+returns-in-Err-clause-worked c = worked_cases
