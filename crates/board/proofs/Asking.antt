@@ -61,8 +61,8 @@ claims_more e ss i d low =
     ∙ ap (map (λ (s : Seat). s.claim)) (filter-append (is_on e) (take i ss) (get_or ss i d ∷ []))
     ∙ map-append (λ (s : Seat). s.claim) (filter (is_on e) (take i ss)) (filter (is_on e) (get_or ss i d ∷ []))
     ∙ ap (λ l. claims_of e (take i ss) ++ l) (one (get_or ss i d)) where
-  one : (s : Seat) → map (λ (x : Seat). x.claim) (filter (is_on e) (s ∷ [])) ≡ cond (is_on e s) (s.claim ∷ []) []
-  one s = elim (cases_Bool (is_on e s)) [ inl yes' ↦ rw yes' refl | inr no' ↦ rw no' refl ]
+      one : (s : Seat) → map (λ (x : Seat). x.claim) (filter (is_on e) (s ∷ [])) ≡ cond (is_on e s) (s.claim ∷ []) []
+      one s = elim (cases_Bool (is_on e s)) [ inl yes' ↦ rw yes' refl | inr no' ↦ rw no' refl ]
 
 module _ (e : ℕ) (front cs : List Claim) (c : Claim) (ss : List Seat) (k : ℕ) (d : Seat) (low : k < length ss) (was : cs ≡ c ∷ (front ++ claims_of e (take k ss))) where
   pub seat_on : is_on e (get_or ss k d) ≡ true → cs ++ (get_or ss k d).claim ∷ [] ≡ c ∷ (front ++ claims_of e (take (k + 1) ss))

@@ -1,12 +1,16 @@
 -- The loads of the engines, by the claims on them.
-use Rattle.std.proofs.Common.{◌≡◌, ℕ, zero, suc, ◌+◌, ◌*◌, ◌/◌, ◌<◌, ◌≤◌, Bool, true, false, cond, List, [], ◌∷◌, ◌++◌, map, length, refl, sym, ap, ◌∙◌, arith, inl, inr}
+use Rattle.std.proofs.Common.{◌≡◌, ℕ, zero, suc, ◌+◌, ◌*◌, ◌/◌, ◌<◌, ◌≤◌, Bool, true, false, cond, List, [], ◌∷◌, ◌++◌, map, length, refl, sym, ap, ◌∙◌, arith, inl, inr, Option, Some, None}
 use Rattle.std.specs.Prelude.{filter, ◌==◌, sum_by}
 use Rattle.std.specs.List.{All, flat_map}
 use Rattle.std.proofs.lemmas.Bool.{cases_Bool}
 use Rattle.std.proofs.lemmas.List.Concat.{flat_map-cons}
 use Rattle.std.proofs.lemmas.List.Elements.{All-head, All-tail}
 use Rattle.std.proofs.lemmas.List.Sums.{sum_by-cons, sum_by-append}
+use Rattle.few.specs.declared.few.Few.{Few}
 use Rattle.few.specs.Few.{items}
+use Rattle.board.specs.declared.residents.Residents.{Residents}
+use Rattle.board.specs.Residents.{jobs, listed}
+use Rattle.std.proofs.lemmas.List.{length-take}
 use Rattle.board.specs.Asked.{asked_by, asked_on, load_of, load_on}
 use Rattle.board.proofs.Asking.{is_on, kept_few, seats_few}
 use Rattle.fit.specs.Fits.{in_cycle}
@@ -50,9 +54,9 @@ module _ (p : Plan) (e : ℕ) where
       let left = kept_sum (λ (x : Seat). in_cycle x.claim) (is_on e s) s (filter (is_on e) ss) in
       let most = light (is_on e s) (in_cycle s.claim) in
       omega arith where
-    light : (b : Bool) (n : ℕ) → cond b n 0 ≤ n
-    light true n = omega arith
-    light false n = omega arith
+        light : (b : Bool) (n : ℕ) → cond b n 0 ≤ n
+        light true n = omega arith
+        light false n = omega arith
 
 pub by_resident : (r : Resident) (e : ℕ) → sum_by (λ (s : Seat). in_cycle s.claim) (filter (is_on e) (items r.seats)) ≡ sum_by load_of (asked_by r e)
 by_resident r e = seats_load r.plan e (items r.seats) r.seated
@@ -74,3 +78,9 @@ by_board (r ∷ rs) e =
 pub board_light : (rs : List Resident) (e : ℕ) → sum_by (λ r. sum_by load_of (asked_by r e)) rs ≤ 115200 * length rs
 board_light [] e = omega arith
 board_light (r ∷ rs) e = let rec = board_light rs e in omega (arith, sum_by-cons (λ x. sum_by load_of (asked_by x e)) r rs, resident_light r e)
+
+pub jobs_few : (rs : Residents) → length (jobs rs) ≤ 16
+jobs_few rs = few rs.kept where
+  few : (o : Option (Few Resident 16)) → length (listed o) ≤ 16
+  few None = omega arith
+  few (Some f) = omega (arith, length-take f.len f.places, f.fits)

@@ -2,4 +2,4 @@ pub mod Refusal
 pub mod Asked
 pub mod Placing
 pub mod Loading
-pub mod Board
+pub mod Residents

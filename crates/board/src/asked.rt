@@ -1,10 +1,11 @@
 //! What the residents of a board ask of its engines.
 ghost use Rattle.std.specs.Prelude.{◌≡◌, ◌≤◌, ◌∷◌, map, length, sum_by};
 ghost use Rattle.board.specs.Asked.{asked_by, claims_on, load_of, load_on, loads};
+ghost use Rattle.board.specs.Residents.{jobs};
 ghost use Rattle.few.specs.Few.{items};
 ghost use Rattle.fit.specs.Fits.{in_cycle};
 
-use crate::board::RESIDENTS;
+use crate::residents::{RESIDENTS, Residents};
 use claim::claim::Claim;
 use engine::roster::ENGINES;
 use few::few::Few;
@@ -57,10 +58,11 @@ fn load_by(resident: &Resident, engine: usize) -> u64
 }
 
 /// The load of an engine.
-fn load_on(residents: &Few<Resident, RESIDENTS>, engine: usize) -> u32
-    ensures { result ≡ load_on (items residents.now) engine }
+fn load_on(residents: &Residents, engine: usize) -> u32
+    ensures { result ≡ load_on (jobs residents.now) engine }
 {
     let load: u64 = residents
+        .as_slice()
         .iter()
         .map(|resident| load_by(resident, engine))
         .sum();
@@ -69,8 +71,8 @@ fn load_on(residents: &Few<Resident, RESIDENTS>, engine: usize) -> u32
 }
 
 /// The loads of the engines.
-pub(crate) fn loads(residents: &Few<Resident, RESIDENTS>) -> [u32; ENGINES]
-    ensures { result ≡ loads (items residents.now) }
+pub(crate) fn loads(residents: &Residents) -> [u32; ENGINES]
+    ensures { result ≡ loads (jobs residents.now) }
 {
     array::from_fn(|engine| load_on(residents, engine))
 }

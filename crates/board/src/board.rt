@@ -1,14 +1,27 @@
 //! A board that does not run.
-use few::few::Few;
-use resident::resident::Resident;
+ghost use Rattle.std.specs.Prelude.{◌≡◌, []};
+ghost use Rattle.board.specs.Residents.{jobs};
 
-/// The most jobs of a board.
-pub const RESIDENTS: usize = 16;
+use crate::residents::Residents;
 
 /// A board: its engines, the rules that it places by, and the jobs that it has.
 pub struct Board<P, R, O> {
     pub(crate) platform: P,
     pub(crate) rule: R,
     pub(crate) order: O,
-    pub(crate) residents: Few<Resident, RESIDENTS>,
+    pub(crate) residents: Residents,
+}
+
+impl<P, R, O> Board<P, R, O> {
+    /// A board without jobs.
+    pub fn new(platform: P, rule: R, order: O) -> Board<P, R, O>
+        ensures { (result.platform ≡ platform) × (result.rule ≡ rule) × (result.order ≡ order) × (jobs result.residents ≡ []) }
+    {
+        Board {
+            platform,
+            rule,
+            order,
+            residents: Residents::new(),
+        }
+    }
 }

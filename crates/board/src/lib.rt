@@ -3,5 +3,7 @@
 
 pub mod asked;
 pub mod board;
+pub mod loading;
 pub mod placing;
 pub mod refusal;
+pub mod residents;

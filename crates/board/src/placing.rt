@@ -1,7 +1,7 @@
 //! Placing a job on the engines of a board.
 ghost use Rattle.std.specs.Prelude.{◌≡◌, ℕ, ◌<◌, ◌≤◌, ◌↔◌, IsTrue, MatchOption};
 ghost use Rattle.board.specs.Placing.{CannotBePlaced, FitsOn, Places};
-ghost use Rattle.few.specs.Few.{items};
+ghost use Rattle.board.specs.Residents.{jobs};
 ghost use Rattle.fit.specs.Fits.{in_cycle};
 ghost use Rattle.fit.specs.Stated.{States};
 ghost use Rattle.task.specs.declared.node.Numbering.TheVariants.{Choice};
@@ -48,7 +48,7 @@ fn no_seat() -> Seat {
 impl<P: Supply, R: SlackRule, O: EngineOrder> Board<P, R, O> {
     /// Whether what the claim states fits on the engine beside the residents.
     fn fits(&self, engine: usize, claim: &Claim) -> bool
-        ensures fits { (p : Pattern) → States p claim.now → IsTrue result ↔ FitsOn (P.Supply.supply self.now.platform) (items self.now.residents) engine p }
+        ensures fits { (p : Pattern) → States p claim.now → IsTrue result ↔ FitsOn (P.Supply.supply self.now.platform) (jobs self.now.residents) engine p }
         ensures paced { (p : Pattern) → States p claim.now → IsTrue result → in_cycle claim.now ≤ 14400 }
     {
         let claims = claims_on(claim, self.residents.as_slice(), engine);
@@ -57,7 +57,7 @@ impl<P: Supply, R: SlackRule, O: EngineOrder> Board<P, R, O> {
 
     /// The job under its first possible choice that can be placed.
     pub(crate) fn place(&self, job: &Job) -> Option<Resident>
-        ensures { MatchOption result ((c : ℕ) → c < numbers Choice (graph job.now) → CannotBePlaced (record { tags = P.Roster.tags self.now.platform; supply = P.Supply.supply self.now.platform; local = R.SlackRule.local self.now.rule; listing = O.EngineOrder.listing self.now.order }) (items self.now.residents) job.now c) (Places (record { tags = P.Roster.tags self.now.platform; supply = P.Supply.supply self.now.platform; local = R.SlackRule.local self.now.rule; listing = O.EngineOrder.listing self.now.order }) (items self.now.residents) job.now) }
+        ensures { MatchOption result ((c : ℕ) → c < numbers Choice (graph job.now) → CannotBePlaced (record { tags = P.Roster.tags self.now.platform; supply = P.Supply.supply self.now.platform; local = R.SlackRule.local self.now.rule; listing = O.EngineOrder.listing self.now.order }) (jobs self.now.residents) job.now c) (Places (record { tags = P.Roster.tags self.now.platform; supply = P.Supply.supply self.now.platform; local = R.SlackRule.local self.now.rule; listing = O.EngineOrder.listing self.now.order }) (jobs self.now.residents) job.now) }
     {
         let loads = loads(&self.residents);
         'choices: for choice in 0..job.choices() {

@@ -10,7 +10,7 @@ use Rattle.fit.proofs.Stating.{given_in_all, stated_divide, stated_formed}
 use Rattle.theory.specs.Demand.{demand_of_all}
 use Rattle.theory.specs.Pattern.{Pattern}
 use Rattle.theory.proofs.Grows.{all_grow}
-use Rattle.theory.proofs.Settles.{settles_all}
+use Rattle.theory.proofs.Settles.{twice_settles_all}
 
 pub least_within : (s : ℕ → ℕ) (d m t : ℕ) → LeastFor s d m → d ≤ s t → m ≤ t
 least_within s d m t found enough = elim (cases_lt t m) [ inl less ↦ absurd (omega (arith, found.least t less)) | inr more ↦ more ]
@@ -22,4 +22,4 @@ module _ (s : ℕ → ℕ) (cycle quota : ℕ) (law : Lawful s cycle quota) (ps 
       omega (arith, given_in_all ps cs st t, all_grow ps (stated_formed ps cs st) n t high, found.enough, more_serve s cycle quota law m n low)
 
   pub settled : ((n : ℕ) → 0 < n → n ≤ 28800 → demand_of_all ps n ≤ s n) → Fits s ps
-  settled passed = settles_all ps (stated_formed ps cs st) (stated_divide ps cs st) s law.joins passed
+  settled passed = twice_settles_all 14400 (omega arith) ps (stated_formed ps cs st) (stated_divide ps cs st) s law.joins passed

@@ -6,7 +6,7 @@ use Rattle.std.proofs.lemmas.List.Sums.{sum_by-cons}
 use Rattle.std.proofs.lemmas.Bool.{cases_lt}
 use Rattle.theory.specs.Pattern.{Pattern, WellFormed}
 use Rattle.theory.specs.Demand.{best, later, at_cut, demand, whole, demand_of_all}
-use Rattle.theory.specs.Theorems.{DemandSettles, SettlesAll}
+use Rattle.theory.specs.Theorems.{DemandSettles, TwiceSettlesAll}
 use Rattle.theory.proofs.Greatest.{most_at, most_le, most_shift}
 use Rattle.theory.proofs.Windows.{best_full, best_short}
 use Rattle.theory.proofs.Chains.{chain, sum_chain, chain_none, chain_le, chain_same}
@@ -104,11 +104,11 @@ none_asks_nothing (pat ∷ pats) (o, ok) =
     omega (arith, sum_by-cons (λ i. demand i 0) pat pats)
 
 -- twice any common multiple of the periods settles every number of ticks
-twice_settles_all :
+twice_settles :
     (h : ℕ) → 0 < h → (ps : List Pattern) → AllByRecursion WellFormed ps → AllByRecursion (λ p. Divides p.period h) ps
     → (s : ℕ → ℕ) → ((n : ℕ) → s n + s h ≤ s (n + h))
     → ((n : ℕ) → 0 < n → n ≤ 2 * h → demand_of_all ps n ≤ s n) → (n : ℕ) → demand_of_all ps n ≤ s n
-twice_settles_all h p pats ok d s joins first n = go n n (omega arith)
+twice_settles h p pats ok d s joins first n = go n n (omega arith)
   where
     go : (fuel n : ℕ) → n ≤ fuel → demand_of_all pats n ≤ s n
     go fuel zero l = omega (arith, none_asks_nothing pats ok)
@@ -123,10 +123,10 @@ twice_settles_all h p pats ok d s joins first n = go n n (omega arith)
           omega (arith, joins k, ap s e, ap (demand_of_all pats) e, first h p (omega arith))
     ]
 
--- a period that divides a belt cycle fits a whole number of times
-all_divide : (ps : List Pattern) → AllByRecursion (λ p. 14400 % p.period ≡ 0) ps → AllByRecursion (λ p. Divides p.period 14400) ps
-all_divide [] d = tt
-all_divide (p ∷ ps) d = ((14400 / p.period, omega (arith, div-add-mod 14400 p.period, mul_comm p.period (14400 / p.period), d.0)), all_divide ps d.1)
+-- a period that divides h fits a whole number of times
+all_divide : (h : ℕ) (ps : List Pattern) → AllByRecursion (λ p. h % p.period ≡ 0) ps → AllByRecursion (λ p. Divides p.period h) ps
+all_divide h [] d = tt
+all_divide h (p ∷ ps) d = ((h / p.period, omega (arith, div-add-mod h p.period, mul_comm p.period (h / p.period), d.0)), all_divide h ps d.1)
 
-pub settles_all : SettlesAll 28800
-settles_all ps ok divide s joins first = twice_settles_all 14400 (omega arith) ps ok (all_divide ps divide) s (λ n. joins n 14400) first
+pub twice_settles_all : TwiceSettlesAll
+twice_settles_all h some ps ok divide s joins first = twice_settles h some ps ok (all_divide h ps divide) s (λ n. joins n h) first

@@ -5,7 +5,8 @@
 --   DemandIsQuick       the quick form is the closed form
 --   DemandGrows         more ticks ask no less; AllGrow says so of several patterns
 --   DemandSettles       past the deadline, m periods more ask for m whole arrivals more, and m periods ask for at least m
---   SettlesAll r        where all periods divide a belt cycle of 14,400 ticks and the supply of two stretches is no more than that of both in a row, r ticks settle every number of them
+--   SettlesAll h r      where all periods divide h and the supply of two stretches is no more than that of both in a row, r ticks settle every number of them
+--   TwiceSettlesAll     for each h of at least 1, twice h ticks do so
 use Rattle.std.specs.Prelude.{◌≡◌, ℕ, ◌+◌, ◌*◌, ◌%◌, ◌<◌, ◌≤◌, List}
 use Rattle.std.specs.List.{AllByRecursion}
 use Rattle.theory.specs.Pattern.{Pattern, WellFormed, Arrival, Arrivals, demand_in, Greatest}
@@ -38,8 +39,11 @@ pub record Settles (p : Pattern) (m : ℕ) : Type 0 where
 abbrev pub DemandSettles : Type 0
 DemandSettles = (p : Pattern) → WellFormed p → (m : ℕ) → Settles p m
 
-abbrev pub SettlesAll : ℕ → Type 0
-SettlesAll r =
-    (ps : List Pattern) → AllByRecursion WellFormed ps → AllByRecursion (λ p. 14400 % p.period ≡ 0) ps
+abbrev pub SettlesAll : ℕ → ℕ → Type 0
+SettlesAll h r =
+    (ps : List Pattern) → AllByRecursion WellFormed ps → AllByRecursion (λ p. h % p.period ≡ 0) ps
     → (s : ℕ → ℕ) → ((a b : ℕ) → s a + s b ≤ s (a + b))
     → ((n : ℕ) → 0 < n → n ≤ r → demand_of_all ps n ≤ s n) → (n : ℕ) → demand_of_all ps n ≤ s n
+
+abbrev pub TwiceSettlesAll : Type 0
+TwiceSettlesAll = (h : ℕ) → 1 ≤ h → SettlesAll h (2 * h)

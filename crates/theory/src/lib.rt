@@ -2,12 +2,13 @@
 #![tactic(auto)]
 
 ghost use Rattle.std.specs.Prelude.{◌≡◌};
-ghost use Rattle.theory.specs.Theorems.{AllGrow, DemandGrows, DemandIsGreatest, DemandIsMet, DemandIsQuick, DemandSettles, GreatestIsOne, SettlesAll};
+ghost use Rattle.theory.specs.Theorems.{AllGrow, DemandGrows, DemandIsGreatest, DemandIsMet, DemandIsQuick, DemandSettles, GreatestIsOne, SettlesAll, TwiceSettlesAll};
 
 /// Up to how many ticks demand and supply have to be compared: twice a belt cycle settles every number of ticks.
 pub fn farthest() -> u32
     ensures value { result ≡ 28800 }
-    ensures settles { SettlesAll result }
+    ensures settles { SettlesAll 14400 result }
+    ensures twice { TwiceSettlesAll }
     ensures greatest { DemandIsGreatest }
     ensures one { GreatestIsOne }
     ensures met { DemandIsMet }

@@ -1,4 +1,5 @@
 use Rattle.std.proofs.Common.{◌≡◌, ℕ, List, ◌∷◌, map, rules, sym, subst, ◌∙◌, ap}
+use Rattle.board.specs.Residents.{jobs}
 use Rattle.few.specs.Few.{items}
 use Rattle.board.specs.Asked.{asked_on, claims_on}
 use Rattle.board.proofs.Stating.{first_paced, stated_on}
@@ -10,14 +11,14 @@ use Rattle.board.proofs.board.Board.fits.Goals as goal
 
 pub returns-clause-fits : goal.returns-clause-fits
 returns-clause-fits g c =
-    let rs = items c.args.self.now.residents in
+    let rs = jobs c.args.self.now.residents in
     let e = c.args.engine in
     let is : map (λ x. x.now) c.as_slice-2.result.now ≡ c.args.claim.now ∷ claims_on rs e = search rules in
     λ p states. c.fits.ensures.fits (p ∷ asked_on rs e) (subst (Stated (p ∷ asked_on rs e)) (sym is) (states, stated_on rs e))
 
 pub returns-clause-paced : goal.returns-clause-paced
 returns-clause-paced g c =
-    let rs = items c.args.self.now.residents in
+    let rs = jobs c.args.self.now.residents in
     let e = c.args.engine in
     let is : map (λ x. x.now) c.as_slice-2.result.now ≡ c.args.claim.now ∷ claims_on rs e = search rules in
     λ p states yes'. first_paced c.args.claim.now (claims_on rs e) (subst Paced is (c.fits.ensures.paced (p ∷ asked_on rs e) (subst (Stated (p ∷ asked_on rs e)) (sym is) (states, stated_on rs e)) yes'))

@@ -2,6 +2,7 @@ use Rattle.std.proofs.Common.{◌≡◌, ℕ, ◌<◌, map, take, filter}
 use Rattle.std.specs.List.{All}
 use Rattle.board.specs.Placing.{CannotBePlaced, Rules, Sits, tried}
 use Rattle.board.proofs.Steps.{NoneBefore}
+use Rattle.board.specs.Residents.{jobs}
 use Rattle.few.specs.Few.{items}
 use Rattle.plan.specs.Pattern.{part_pattern}
 use Rattle.resident.specs.Seats.{Fair, all_tags, has_part}
@@ -15,7 +16,7 @@ invariant-loop-place g l =
       local = g.R.SlackRule.local l.self.rule;
       listing = g.O.EngineOrder.listing l.self.order;
     } in
-    (items l.seats ≡ items l.initial.seats) × NoneBefore rules (items l.self.residents) (part_pattern l.plan l.tag) (tried rules (items l.self.residents) l.tag) l.place
+    (items l.seats ≡ items l.initial.seats) × NoneBefore rules (jobs l.self.residents) (part_pattern l.plan l.tag) (tried rules (jobs l.self.residents) l.tag) l.place
 
 abbrev pub invariant-tags : goal.invariant-tags
 invariant-tags g l =
@@ -27,7 +28,7 @@ invariant-tags g l =
     } in
     (map (λ s. s.tag) (items l.seats) ≡ filter (λ t. has_part l.plan t) (take l.tag all_tags))
     × All (Fair l.plan) (items l.seats)
-    × All (Sits rules (items l.self.residents) l.plan) (items l.seats)
+    × All (Sits rules (jobs l.self.residents) l.plan) (items l.seats)
 
 abbrev pub invariant-choices : goal.invariant-choices
 invariant-choices g l =
@@ -37,4 +38,4 @@ invariant-choices g l =
       local = g.R.SlackRule.local l.self.rule;
       listing = g.O.EngineOrder.listing l.self.order;
     } in
-    (c : ℕ) → c < l.choice → CannotBePlaced rules (items l.self.residents) l.job c
+    (c : ℕ) → c < l.choice → CannotBePlaced rules (jobs l.self.residents) l.job c

@@ -1,0 +1,7 @@
+pub mod Asked
+pub mod Graph
+pub mod Lengths
+pub mod Tables
+pub mod Unique
+pub mod Windows
+pub mod Worked
