@@ -83,7 +83,7 @@ clash_nodes v (Conditional us ∷ ns) (Alternative us' ∷ ms) e bs run break =
 abbrev from_nodes : Written → List Slot
 from_nodes w = slot keys.TheVariants.Nodes (decimal (length w.nodes)) ∷ nodes_slots 0 w.nodes
 
-abbrev from_deadline : Written → ℕ → List Slot
+abbrev pub from_deadline : Written → ℕ → List Slot
 from_deadline w period = slot (keys.TheVariants.Deadline period) (decimal w.deadline) ∷ from_nodes w
 
 abbrev from_period : Written → List Slot
@@ -195,7 +195,7 @@ module _ (ns ms : List Node) (long : length ns ≡ length ms) (alike : (i : ℕ)
       ∙ ap (λ i. cond (is_fork (at ms v)) (leb 1 i && (leb 2 (outs ns v) && leb (outs ns v) 3)) true) into
       ∙ ap (λ o. cond (is_fork (at ms v)) (leb 1 (ins ms v) && (leb 2 o && leb o 3)) true) out
 
-  pub few_same : few_forks ns ≡ few_forks ms
+  few_same : few_forks ns ≡ few_forks ms
   few_same =
       let a = count_same (λ v. is_alternative (at ns v)) (λ v. is_alternative (at ms v)) (λ v. (alike v).alternatives) (length ns) ∙ ap (count_below (λ v. is_alternative (at ms v))) long in
       let c = count_same (λ v. is_conditional (at ns v)) (λ v. is_conditional (at ms v)) (λ v. (alike v).conditionals) (length ns) ∙ ap (count_below (λ v. is_conditional (at ms v))) long in
