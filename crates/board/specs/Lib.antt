@@ -3,3 +3,4 @@ pub mod Asked
 pub mod Placing
 pub mod Loading
 pub mod Residents
+pub mod Determined
