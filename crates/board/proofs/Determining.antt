@@ -1,5 +1,5 @@
 -- A text has one answer: the job of a text is one, its plan asks the same, and of the tried engines the first that serves is one.
-use Rattle.std.proofs.Common.{◌≡◌, ℕ, ◌<◌, ◌≤◌, Bool, true, false, cond, eqb, List, [], ◌∷◌, ◌++◌, map, filter, length, Option, Some, None, IsSome, refl, sym, ap, ◌∙◌, subst, inl, inr, arith}
+use Rattle.std.proofs.Common.{◌≡◌, ℕ, ◌<◌, Bool, true, false, cond, eqb, List, [], ◌∷◌, ◌++◌, map, filter, length, Option, Some, None, IsSome, refl, sym, ap, ◌∙◌, subst, inl, inr, arith}
 use Rattle.std.specs.Prelude.{flat_map, slice_get, unwrap_or}
 use Rattle.std.specs.List.{All}
 use Rattle.std.proofs.Math.Path.{fun_ext}
@@ -9,8 +9,8 @@ use Rattle.std.proofs.lemmas.Option.{same_Some}
 use Rattle.board.specs.declared.refusal.Refusal.{Refusal}
 use Rattle.board.specs.declared.refusal.Refusal.TheVariants.{Fault, NumberTaken, BoardFull, NoChoice, NoPlacement, NotResident, ShortBuffer}
 use Rattle.board.specs.Asked.{asked_by, loads}
-use Rattle.board.specs.Determined.{Alike, Complete, Determined, LoadDetermined, SameJob}
-use Rattle.board.specs.Loading.{Comes, Free, IsLoaded, LoadRefused, SomePossible}
+use Rattle.board.specs.Determined.{Alike, Complete, LoadDetermined, SameJob}
+use Rattle.board.specs.Loading.{Free, IsLoaded, LoadRefused, SomePossible}
 use Rattle.board.specs.Placing.{CannotBePlaced, FirstFit, FitsOn, IsPlaced, Rules, Sits, Stuck, tellings, tried}
 use Rattle.board.proofs.Listed.{is_tagged}
 use Rattle.computed.proofs.Asked.{known_part_pattern, known_tasks}

@@ -6,11 +6,11 @@
 --   header w                the numbers of w, and how many nodes it has
 --   slots w                 the lines of a job text
 --   written j               what the text of the job j says
---   Full n                  the node n has a place for each of the 24 nodes that it might come after
---   NodeFits v n            the numbers of the node v lie in their ranges, and it comes after lower nodes
+--   Full n                  the table of the node n has a place for each of 24 nodes
+--   NodeFits v n            the numbers of the node v lie in their ranges, its table is full, and it comes after lower nodes
 --   NodesFit ns             so it is of each of the nodes
 --   Forked ns f             the first fork at fault, or that there are too many forks
---   Reads text j            the text is that of the job j
+--   Reads text j            the text is that of the job j, whose nodes have full tables
 --   Unread text             the text is that of no job
 --   WrongLine text f        the text is that of no job, and not just the lines of some w: f names the line where it halts
 --   WrongForks text f       the text is that of no job, but just the lines of some w: f names what is wrong with the forks of w
