@@ -4,3 +4,4 @@ pub mod Placing
 pub mod Loading
 pub mod Residents
 pub mod Determined
+pub mod Sheets

@@ -1,7 +1,8 @@
 -- The jobs of a board.
 --   jobs rs             the jobs, the first loaded first
 --   resident_of rs n    the first of the residents rs with the number n, if there is one
-use Rattle.std.specs.Prelude.{ℕ, cond, List, [], ◌∷◌, Option, Some, None, ◌==◌}
+use Rattle.std.specs.Prelude.{ℕ, List, [], Option, Some, None, ◌==◌}
+use Rattle.std.specs.List.{find}
 use Rattle.board.specs.declared.residents.Residents.{Residents}
 use Rattle.few.specs.declared.few.Few.{Few}
 use Rattle.few.specs.Few.{items}
@@ -16,5 +17,4 @@ abbrev pub jobs : Residents → List Resident
 jobs rs = listed rs.kept
 
 abbrev pub resident_of : List Resident → ℕ → Option Resident
-resident_of [] n = None
-resident_of (r ∷ rs) n = cond (number_of r == n) (Some r) (resident_of rs n)
+resident_of rs n = find (λ (r : Resident). number_of r == n) rs

@@ -4,7 +4,9 @@ ghost use Rattle.board.specs.Residents.{jobs};
 
 use crate::residents::Residents;
 
+// It is not Copy: a board that is started has to be gone.
 /// A board: its engines, the rules that it places by, and the jobs that it has.
+#[derive(Debug, PartialEq, Eq, Drop)]
 pub struct Board<P, R, O> {
     pub(crate) platform: P,
     pub(crate) rule: R,

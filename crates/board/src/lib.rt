@@ -7,3 +7,4 @@ pub mod loading;
 pub mod placing;
 pub mod refusal;
 pub mod residents;
+pub mod sheets;

@@ -1,2 +1,3 @@
+pub mod Found
 pub mod Leftover
 pub mod Making

@@ -1,4 +1,3 @@
-pub mod Lines
-pub mod Refusal
+pub mod Rules
 pub mod Answer
 pub mod Listing

@@ -1,16 +1,29 @@
 //! The answer to a job text.
-ghost use Rattle.std.specs.Prelude.{IfOk, string_bytes};
+ghost use Rattle.std.specs.Prelude.{◌≡◌, IfOk, string_bytes};
+ghost use Rattle.board.specs.Residents.{jobs};
 ghost use Rattle.listing.specs.Answer.{Answers};
+ghost use Rattle.listing.specs.Rules.{seat_rules};
 
-use crate::laid_out::LaidOut;
+use board::board::Board;
+use engine::calendar::Calendar;
+use order::fullest::Fullest;
+use sheet::sheet::Sheet;
+use slack::proportional::Proportional;
 use std::alloc::{AllocError, Global};
 
-/// What the seating program prints of a job text.
-pub fn answer(heap: Global, text: &[u8]) -> Result<String, AllocError>
-    ensures { IfOk result (λ s. Answers text.now (string_bytes s)) }
+/// The board of the seating program.
+pub(crate) type SeatBoard = Board<Calendar, Proportional, Fullest>;
+
+/// Loads the job of a text, and makes the answer to it.
+pub(crate) fn answer(heap: Global, board: &mut SeatBoard, text: &[u8]) -> Result<String, AllocError>
+    ensures answer { IfOk result (λ s. Answers (seat_rules board.old.platform) (jobs board.old.residents) text.now (jobs board.new.residents) (string_bytes s)) }
+    ensures kept { board.new.platform ≡ board.old.platform }
 {
-    match LaidOut::of(text) {
-        Ok(job) => format!(in heap; "{job}"),
-        Err(refusal) => format!(in heap; "{refusal}"),
+    match board.load(text) {
+        Ok(number) => {
+            let resident = board.resident(number).unwrap();
+            format!(in heap; "answer=0\n{}", Sheet { resident })
+        }
+        Err(refusal) => format!(in heap; "answer={refusal}\n"),
     }
 }

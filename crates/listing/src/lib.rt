@@ -1,8 +1,5 @@
 //! What the seating program prints.
 #![tactic(auto)]
 
-pub mod answer;
-mod laid_out;
-mod lines;
+mod answer;
 pub mod listing;
-pub mod refusal;

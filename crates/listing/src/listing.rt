@@ -1,39 +1,52 @@
 //! All that the seating program prints.
-ghost use Rattle.std.specs.Prelude.{IfOk, MatchResult, string_bytes};
+ghost use Rattle.std.specs.Prelude.{◌≡◌, IfOk, MatchResult, string_bytes};
+ghost use Rattle.board.specs.Residents.{jobs};
 ghost use Rattle.listing.specs.Listing.{Answered, Lists, Opens, Stops};
+ghost use Rattle.listing.specs.Rules.{seat_rules};
 ghost use Rattle.std.specs.Option.{option_map};
 
-use crate::answer::answer;
-use crate::refusal::Refusal;
+use crate::answer::{SeatBoard, answer};
+use board::board::Board;
+use engine::calendar::Calendar;
+use order::fullest::Fullest;
+use slack::proportional::Proportional;
 use std::alloc::{AllocError, Global};
 use text::calendar_text::read_calendar;
+use text::fault::Fault;
 use text::texts::first_text;
 
 /// The most bytes that are read.
 pub const MOST: usize = 65_536;
 
-/// The job texts of an input that is not too long and whose platform text is right.
-fn job_texts(input: &[u8]) -> Result<Option<&[u8]>, Refusal>
-    ensures { MatchResult result (λ jobs. Opens input.now (option_map (λ x. x.now) jobs)) (Stops input.now) }
-{
-    if input.len() > MOST {
-        return Err(Refusal::Long);
-    }
-    let (platform, jobs) = first_text(input);
-    let _calendar = read_calendar(platform)?;
-    Ok(jobs)
+/// The platform of an input, and the job texts after it.
+#[derive(Debug, Clone, Copy)]
+struct Opened<'a> {
+    platform: Calendar,
+    texts: Option<&'a [u8]>,
 }
 
-/// The answers to job texts, one after the other.
+/// What an input begins with, if it is not too long and its platform text is right.
+fn open(input: &[u8]) -> Result<Opened<'_>, Fault>
+    ensures { MatchResult result (λ o. Opens input.now o.platform (option_map (λ x. x.now) o.texts)) (Stops input.now) }
+{
+    if input.len() > MOST {
+        return Err(Fault::Size);
+    }
+    let (text, texts) = first_text(input);
+    let platform = read_calendar(text)?;
+    Ok(Opened { platform, texts })
+}
+
+/// The answers to job texts, one after the other, by a board that takes the jobs that it can place.
 #[tactic(auto, using(crate::proofs::Leftover::leftover_falls))]
-fn answers(heap: Global, texts: Option<&[u8]>) -> Result<String, AllocError>
-    ensures { IfOk result (λ s. Answered (option_map (λ x. x.now) texts.entry) (string_bytes s)) }
+fn answers(heap: Global, board: &mut SeatBoard, texts: Option<&[u8]>) -> Result<String, AllocError>
+    ensures { IfOk result (λ s. Answered (seat_rules board.old.platform) (jobs board.old.residents) (option_map (λ x. x.now) texts.entry) (string_bytes s)) }
 {
     let mut lines = String::new(heap);
     let mut left = texts;
     while let Some(input) = left {
         let (text, more) = first_text(input);
-        lines.push_str(&answer(heap, text)?)?;
+        lines.push_str(&answer(heap, board, text)?)?;
         left = more;
     }
     Ok(lines)
@@ -43,8 +56,11 @@ fn answers(heap: Global, texts: Option<&[u8]>) -> Result<String, AllocError>
 pub fn listing(heap: Global, input: &[u8]) -> Result<String, AllocError>
     ensures { IfOk result (λ s. Lists input.now (string_bytes s)) }
 {
-    match job_texts(input) {
-        Ok(jobs) => answers(heap, jobs),
-        Err(refusal) => format!(in heap; "{refusal}"),
+    match open(input) {
+        Ok(Opened { platform, texts }) => {
+            let mut board = Board::new(platform, Proportional, Fullest);
+            answers(heap, &mut board, texts)
+        }
+        Err(fault) => format!(in heap; "answer={fault}\n"),
     }
 }
