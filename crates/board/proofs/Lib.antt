@@ -3,3 +3,4 @@ pub mod Loads
 pub mod Stating
 pub mod Listed
 pub mod Steps
+pub mod Determining

@@ -1,5 +1,5 @@
 -- A list that has each engine of a tag once: each stands at some place, and there are at most 16.
-use Rattle.std.proofs.Common.{◌≡◌, ℕ, suc, ◌+◌, ◌≤◌, Bool, true, false, cond, eqb, List, [], ◌∷◌, length, Option, Some, None, refl, sym, ap, ◌∙◌, arith, inl, inr, ◌⊎◌, ◌||◌}
+use Rattle.std.proofs.Common.{◌≡◌, ℕ, zero, suc, ◌+◌, ◌≤◌, Bool, true, false, cond, eqb, List, [], ◌∷◌, length, Option, Some, None, refl, sym, ap, ◌∙◌, arith, inl, inr, ◌⊎◌, ◌||◌}
 use Rattle.std.specs.Prelude.{slice_get}
 use Rattle.std.specs.List.{AllByRecursion, IsDistinct, list_any}
 use Rattle.std.proofs.lemmas.Bool.{cases_Bool, cases_eq, cases_lt, eqb-true, eq-eqb}
@@ -7,6 +7,13 @@ use Rattle.std.proofs.lemmas.Map.Steps.{length-le_from_distinct_below}
 use Rattle.std.proofs.lemmas.Option.{none-some, same_Some, slice_get_past}
 use Rattle.engine.specs.Roster.{Rostered, tag_of}
 use Rattle.order.specs.Listing.{EachOnce, times}
+
+cases_tag : (o : Option ℕ) (g : ℕ) → (o ≡ Some g) ⊎ (o ≡ Some g → ⊥)
+cases_tag None g = inr (λ is. none-some g is)
+cases_tag (Some t) g = elim (cases_eq t g) [
+  | inl same ↦ inl (ap Some same)
+  | inr differ ↦ inr (λ is. differ (same_Some t g is))
+]
 
 times_here : (x e : ℕ) (xs : List ℕ) (b : Bool) → eqb x e ≡ b → times e (x ∷ xs) ≡ cond b 1 0 + times e xs
 times_here x e xs b is = ap (λ (c : Bool). cond c 1 0 + times e xs) is
@@ -63,13 +70,19 @@ few_listed tags g xs rostered each =
           )
     ]) where
       at_most : (e : ℕ) → times e xs ≤ 1
-      at_most e = elim (cases_tag (tag_of tags e)) [
+      at_most e = elim (cases_tag (tag_of tags e) g) [
         | inl is ↦ omega (arith, each.once e is)
         | inr isn't ↦ omega (arith, each.never e isn't)
-      ] where
-        cases_tag : (o : Option ℕ) → (o ≡ Some g) ⊎ (o ≡ Some g → ⊥)
-        cases_tag None = inr (λ is. none-some g is)
-        cases_tag (Some t) = elim (cases_eq t g) [
-          | inl same ↦ inl (ap Some same)
-          | inr differ ↦ inr (λ is. differ (same_Some t g is))
-        ]
+      ]
+
+-- what stands at a place of it is an engine of the tag
+stood : (e : ℕ) (xs : List ℕ) (k : ℕ) → slice_get xs k ≡ Some e → 1 ≤ times e xs
+stood e [] k at = absurd (none-some e at)
+stood e (x ∷ xs) zero at = omega (arith, times_here x e xs true (eq-eqb x e (same_Some x e at)))
+stood e (x ∷ xs) (suc k) at = omega (arith, stood e xs k at, times_here x e xs (eqb x e) refl)
+
+pub is_tagged : (tags : List ℕ) (g : ℕ) (xs : List ℕ) → EachOnce tags g xs → (e k : ℕ) → slice_get xs k ≡ Some e → tag_of tags e ≡ Some g
+is_tagged tags g xs each e k at = elim (cases_tag (tag_of tags e) g) [
+  | inl is ↦ is
+  | inr isn't ↦ absurd (omega (arith, each.never e isn't, stood e xs k at))
+]

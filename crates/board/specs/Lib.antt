@@ -3,4 +3,5 @@ pub mod Asked
 pub mod Placing
 pub mod Loading
 pub mod Residents
+pub mod Determined
 pub mod Sheets

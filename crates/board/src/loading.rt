@@ -1,5 +1,6 @@
 //! Loading a job.
 ghost use Rattle.std.specs.Prelude.{◌≡◌, ◌++◌, ℕ, List, Decides, IfErr, IfOk, MatchResult};
+ghost use Rattle.board.specs.Determined.{LoadDetermined};
 ghost use Rattle.board.specs.Loading.{Comes, Free, LoadRefused, Takes};
 ghost use Rattle.board.specs.Placing.{Rules, tellings};
 ghost use Rattle.board.specs.Residents.{jobs};
@@ -51,10 +52,12 @@ impl<P: Supply, R: SlackRule, O: EngineOrder> Board<P, R, O> {
     }
 
     /// Loads the job of the text, and answers its number.
+    #[tactic(auto, using(crate::proofs::Determining::load_determined))]
     pub fn load(&mut self, text: &[u8]) -> Result<u32, Refusal>
         ensures granted { IfOk result (λ n. Takes (record { tags = P.Roster.tags self.old.platform; supply = P.Supply.supply self.old.platform; local = R.SlackRule.local self.old.rule; listing = O.EngineOrder.listing self.old.order }) (jobs self.old.residents) text.now n (jobs self.new.residents) (O.EngineOrder.listing self.new.order)) }
         ensures kept { (self.new.platform ≡ self.old.platform) × (self.new.rule ≡ self.old.rule) }
         ensures refused { IfErr result (λ f. LoadRefused (record { tags = P.Roster.tags self.old.platform; supply = P.Supply.supply self.old.platform; local = R.SlackRule.local self.old.rule; listing = O.EngineOrder.listing self.old.order }) (jobs self.old.residents) text.now f × (self.new ≡ self.old)) }
+        ensures determined { LoadDetermined }
     {
         let job = self.coming(text)?;
         let Some(_) = first_possible(&job) else {

@@ -1,5 +1,5 @@
 -- Every part of a placed job sits on an engine.
-use Rattle.std.proofs.Common.{◌≡◌, ℕ, zero, suc, ◌<◌, ◌≤◌, Bool, true, false, ◌&&◌, eqb, leb, List, [], ◌∷◌, ◌++◌, map, length, get_or, IsSome, refl, sym, ap, ◌∙◌, inl, inr, arith}
+use Rattle.std.proofs.Common.{◌≡◌, ℕ, zero, suc, ◌<◌, ◌≤◌, Bool, true, false, cond, ◌&&◌, eqb, leb, List, [], ◌∷◌, ◌++◌, map, length, get_or, IsSome, refl, sym, ap, ◌∙◌, inl, inr, arith}
 use Rattle.few.specs.Few.{items}
 use Rattle.plan.specs.declared.part.Task.{Task}
 use Rattle.plan.specs.declared.plan.Plan.{Plan}
@@ -12,6 +12,7 @@ use Rattle.resident.specs.Seats.{all_tags, has_part, some_task}
 use Rattle.std.specs.List.{list_any}
 use Rattle.std.proofs.lemmas.Bool.{and_parts, cases_Bool, cases_eq, eqb-true, leb-true}
 use Rattle.std.proofs.lemmas.Bool.Decides.{nat_tests}
+use Rattle.std.proofs.lemmas.List.{append-nil}
 use Rattle.std.proofs.lemmas.Map.Views.{any-filter_same}
 use Rattle.task.specs.declared.node.Node.{Node}
 use Rattle.task.specs.declared.node.Node.TheVariants.{SubTask, Alternative, Conditional}
@@ -57,6 +58,24 @@ tag_few (SubTask tag work nodes) g fit is =
     omega (arith, eqb-true tag g is, leb-true tag 7 (and_parts (leb tag 7) (leb 1 work && leb work 14400) fit).0)
 tag_few (Alternative nodes) g fit is = absurd (let z : ◌≡◌ {A = Bool} false true = is in cc)
 tag_few (Conditional nodes) g fit is = absurd (let z : ◌≡◌ {A = Bool} false true = is in cc)
+
+-- a node that passes is there where a sub-task is
+some_found : (p : Plan) (t : ℕ → Bool) (n : ℕ) → some_task (tasks_below p t n) ≡ true → (v : ℕ) × (v < n) × (t v ≡ true)
+some_found p t zero some = absurd (let z : ◌≡◌ {A = Bool} false true = some in cc)
+some_found p t (suc n) some = elim (cases_Bool (t n)) [
+  | inl yes' ↦ (n, omega arith, yes')
+  | inr no' ↦
+      let none : tasks_below p t (suc n) ≡ tasks_below p t n = ap (λ (b : Bool). tasks_below p t n ++ cond b (task_at p n ∷ []) []) no' ∙ append-nil (tasks_below p t n) in
+      let (v, low, is) = some_found p t n (ap some_task (sym none) ∙ some) in
+      (v, omega arith, is)
+]
+
+-- a part is of a tag that there is
+pub part_few : (p : Plan) (g : ℕ) → has_part p g ≡ true → g ≤ 7
+part_few p g has =
+    let ns = nodes_of p in
+    let (v, low, is) = some_found p (λ u. get_or p.members u false && tagged g (at ns u)) (length ns) has in
+    tag_few (at ns v) g (p.job.ranged v low) (and_parts (get_or p.members v false) (tagged g (at ns v)) is).1
 
 -- so does the part of each sub-task of the concrete graph
 pub sub_task_sits : (r : Resident) (v g : ℕ) → v < length (nodes_of r.plan) → get_or r.plan.members v false ≡ true → tagged g (at (nodes_of r.plan) v) ≡ true → IsSome (engine_of r g)

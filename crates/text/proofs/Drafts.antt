@@ -5,12 +5,12 @@ use Rattle.std.proofs.lemmas.Bool.{cases_lt, false≢true}
 use Rattle.task.specs.declared.job.Job.{Job}
 use Rattle.task.specs.declared.node.Node.{Node}
 use Rattle.task.specs.Flaws.{HeaderFits, InRange, MadeOf}
-use Rattle.task.specs.Graph.{Upward}
+use Rattle.task.specs.Graph.{at, Upward}
 use Rattle.task.specs.Node.{after, missing}
 use Rattle.text.specs.declared.fault.Fault.{Fault}
 use Rattle.text.specs.declared.fault.Fault.TheVariants.{Size, Line, Form, Range, Fork, Forks}
 use Rattle.text.specs.declared.job_text.Header.{Header}
-use Rattle.text.specs.JobText.{Written, Forked, NodesFit, Reads, Refused, header_slots, nodes_slots, slots, written}
+use Rattle.text.specs.JobText.{Written, Forked, Full, NodesFit, Reads, Refused, header_slots, nodes_slots, slots, written}
 use Rattle.text.specs.Slots.{Halts, Sized, Stops, Took, Whole, text_of}
 use Rattle.text.proofs.Following.{took_append, stops_after, stops_more}
 use Rattle.text.proofs.Single.{line_unread, forks_unread}
@@ -81,8 +81,9 @@ same_slots v w a b c d =
     ∙ (ap (λ x. slots (record { number = w.number; period = w.period; deadline = x; nodes = v.nodes })) c
     ∙ ap (λ x. slots (record { number = w.number; period = w.period; deadline = w.deadline; nodes = x })) d))
 
-pub made_reads : (bs : List ℕ) (h : Header) (ns : List Node) (j : Job) → Sized bs → Whole (slots (draft h ns)) bs → MadeOf h.number h.period h.deadline ns j → Reads bs j
-made_reads bs h ns j s whole made = record {
+pub made_reads : (bs : List ℕ) (h : Header) (ns : List Node) (j : Job) → Sized bs → Whole (slots (draft h ns)) bs → NodesFit ns → MadeOf h.number h.period h.deadline ns j → Reads bs j
+made_reads bs h ns j s whole fit made = record {
   sized = s;
+  full = subst (λ (ms : List Node). (v : ℕ) → v < length ms → Full (at ms v)) (sym made.its_nodes) (λ v low. (fit v low).full);
   whole = subst (λ ss. Whole ss bs) (sym (same_slots (written j) (draft h ns) made.its_number made.its_period made.its_deadline made.its_nodes)) whole;
 }

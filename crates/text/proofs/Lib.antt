@@ -15,3 +15,4 @@ pub mod Calendars
 pub mod Walking
 pub mod Injective
 pub mod Single
+pub mod Only

@@ -82,7 +82,7 @@ pub ranged_lacks : (k : Key) (bs : List ℕ) → Ranged k bs → Lacks 10 bs
 ranged_lacks k bs r = form_lacks (sort_of k) bs (ranged_form k bs r)
 
 -- a line of a key can be taken in one way
-taken_same : (k : Key) (bs v cs w ds : List ℕ) → Taken k bs v cs → Taken k bs w ds → (v ≡ w) × (cs ≡ ds)
+pub taken_same : (k : Key) (bs v cs w ds : List ℕ) → Taken k bs v cs → Taken k bs w ds → (v ≡ w) × (cs ≡ ds)
 taken_same k bs v cs w ds a b =
     let e = append_cancel_left (key_bytes k) (v ++ 10 ∷ cs) (w ++ 10 ∷ ds) (sym a.written ∙ b.written) in
     (cut_front 10 v cs w ds a.ended b.ended e, cut_back 10 v cs w ds a.ended b.ended e)
@@ -105,7 +105,7 @@ pub runs_whole : (ss : List Slot) (bs : List ℕ) → bs ≡ text_of ss → AllB
 runs_whole [] bs e r = e
 runs_whole (s ∷ ss) bs e r = (text_of ss, r.0, e, runs_whole ss (text_of ss) refl r.1)
 
-fails_broken : (k : Key) (bs : List ℕ) (n : ℕ) (f : Fault) → Fails k bs n f → Broken k bs
+pub fails_broken : (k : Key) (bs : List ℕ) (n : ℕ) (f : Fault) → Fails k bs n f → Broken k bs
 fails_broken k bs n Size f v cs t r = absurd f
 fails_broken k bs n (Line at) f v cs t r = f.1 v cs t
 fails_broken k bs n (Form at) f v cs t r =
@@ -117,7 +117,7 @@ fails_broken k bs n (Range at) f v cs t r =
 fails_broken k bs n (Fork node) f v cs t r = absurd f
 fails_broken k bs n Forks f v cs t r = absurd f
 
-line_append : (s : Slot) (ss : List Slot) (rest : List ℕ) → text_of (s ∷ ss) ++ rest ≡ key_bytes s.key ++ (s.value ++ (10 ∷ (text_of ss ++ rest)))
+pub line_append : (s : Slot) (ss : List Slot) (rest : List ℕ) → text_of (s ∷ ss) ++ rest ≡ key_bytes s.key ++ (s.value ++ (10 ∷ (text_of ss ++ rest)))
 line_append s ss rest =
     append_assoc (key_bytes s.key) (s.value ++ (10 ∷ text_of ss)) rest
     ∙ ap (λ xs. key_bytes s.key ++ xs) (append_assoc s.value (10 ∷ text_of ss) rest)

@@ -6,10 +6,11 @@
 --   header w                the numbers of w, and how many nodes it has
 --   slots w                 the lines of a job text
 --   written j               what the text of the job j says
---   NodeFits v n            the numbers of the node v lie in their ranges, and it comes after lower nodes
+--   Full n                  the table of the node n has a place for each of 24 nodes
+--   NodeFits v n            the numbers of the node v lie in their ranges, its table is full, and it comes after lower nodes
 --   NodesFit ns             so it is of each of the nodes
 --   Forked ns f             the first fork at fault, or that there are too many forks
---   Reads text j            the text is that of the job j
+--   Reads text j            the text is that of the job j, whose nodes have full tables
 --   Unread text             the text is that of no job
 --   WrongLine text f        the text is that of no job, and not just the lines of some w: f names the line where it halts
 --   WrongForks text f       the text is that of no job, but just the lines of some w: f names what is wrong with the forks of w
@@ -70,8 +71,12 @@ slots w = header_slots (header w) ++ nodes_slots 0 w.nodes
 abbrev pub written : Job → Written
 written j = record { number = j.number; period = j.period; deadline = j.deadline; nodes = graph j }
 
+abbrev pub Full : Node → Type 0
+Full n = length (after n) ≡ 24
+
 pub record NodeFits (v : ℕ) (n : Node) : Type 0 where
   pub numbers : numbers_fit n ≡ true
+  pub full : Full n
   pub below : Below v (after n)
 
 abbrev pub NodesFit : List Node → Type 0
@@ -88,6 +93,7 @@ Forked ns Forks = ForksFit ns × (few_forks ns ≡ false)
 pub record Reads (text : List ℕ) (j : Job) : Type 0 where
   pub sized : Sized text
   pub whole : Whole (slots (written j)) text
+  pub full : (v : ℕ) → v < length (graph j) → Full (at (graph j) v)
 
 -- the text of no job
 abbrev pub Unread : List ℕ → Type 0

@@ -44,5 +44,5 @@ returns c =
     let whole = all_whole h ns _ _ _ _ _ nodes.0 (start_took start c.in_ok-header.ensures.0) nodes.1 c.in_ok-end.ensures in
     MatchResult-weaker c.make_job.result
     (subst (λ ms. MatchResult c.make_job.result (MadeOf h.number h.period h.deadline ms) (Forked ms)) c.deref.ensures.0 c.make_job.ensures)
-    (λ j made. made_reads _ h ns j start.sized whole made)
+    (λ j made. made_reads _ h ns j start.sized whole nodes.2 made)
     (λ f forked. forks_refused _ f (draft h ns) start.sized whole forked)
