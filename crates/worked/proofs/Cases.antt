@@ -24,7 +24,7 @@ use Rattle.worked.proofs.Full.{no_tick_left}
 use Rattle.worked.proofs.Known.{asks, span_of}
 use Rattle.worked.proofs.Loading.{refused_by_9}
 use Rattle.worked.proofs.Parts.{choices_alone, choices_both, choices_either, has_alone, has_both, only_alone, only_both, only_either, pattern_of, window}
-use Rattle.worked.proofs.Texts.{falls, forks_fit, nodes_fit, Sensible, writes_lines, written}
+use Rattle.worked.proofs.Texts.{falls, forks_fit, nodes_fit, tables_full, Sensible, writes_lines, written}
 use Rattle.worked.proofs.Single.{none_there, placed_single, refused_single}
 
 -- no engine serves more than every tick
@@ -204,36 +204,36 @@ module _ where
 -- these numbers and nodes make jobs
 module _ where
   sensible_100_100 : Sensible 100 100 (alone 100)
-  unfolding after alone digits falls nodes_fit forks_fit
-  sensible_100_100 = record { periodic = refl; due = refl; counted = refl; nodes = refl; forks = refl; few = refl; low = refl; brief = refl }
+  unfolding after alone digits falls nodes_fit tables_full forks_fit
+  sensible_100_100 = record { periodic = refl; due = refl; counted = refl; nodes = refl; full = refl; forks = refl; few = refl; low = refl; brief = refl }
 
   sensible_2_2 : Sensible 2 2 (alone 1)
-  unfolding after alone digits falls nodes_fit forks_fit
-  sensible_2_2 = record { periodic = refl; due = refl; counted = refl; nodes = refl; forks = refl; few = refl; low = refl; brief = refl }
+  unfolding after alone digits falls nodes_fit tables_full forks_fit
+  sensible_2_2 = record { periodic = refl; due = refl; counted = refl; nodes = refl; full = refl; forks = refl; few = refl; low = refl; brief = refl }
 
   sensible_1_1 : Sensible 1 1 (alone 1)
-  unfolding after alone digits falls nodes_fit forks_fit
-  sensible_1_1 = record { periodic = refl; due = refl; counted = refl; nodes = refl; forks = refl; few = refl; low = refl; brief = refl }
+  unfolding after alone digits falls nodes_fit tables_full forks_fit
+  sensible_1_1 = record { periodic = refl; due = refl; counted = refl; nodes = refl; full = refl; forks = refl; few = refl; low = refl; brief = refl }
 
   sensible_100_99 : Sensible 100 99 (both 50)
-  unfolding after both digits falls nodes_fit forks_fit
-  sensible_100_99 = record { periodic = refl; due = refl; counted = refl; nodes = refl; forks = refl; few = refl; low = refl; brief = refl }
+  unfolding after both digits falls nodes_fit tables_full forks_fit
+  sensible_100_99 = record { periodic = refl; due = refl; counted = refl; nodes = refl; full = refl; forks = refl; few = refl; low = refl; brief = refl }
 
   sensible_both_100 : Sensible 100 100 (both 50)
-  unfolding after both digits falls nodes_fit forks_fit
-  sensible_both_100 = record { periodic = refl; due = refl; counted = refl; nodes = refl; forks = refl; few = refl; low = refl; brief = refl }
+  unfolding after both digits falls nodes_fit tables_full forks_fit
+  sensible_both_100 = record { periodic = refl; due = refl; counted = refl; nodes = refl; full = refl; forks = refl; few = refl; low = refl; brief = refl }
 
   sensible_50_50 : Sensible 50 50 either
-  unfolding after either digits falls nodes_fit forks_fit
-  sensible_50_50 = record { periodic = refl; due = refl; counted = refl; nodes = refl; forks = refl; few = refl; low = refl; brief = refl }
+  unfolding after either digits falls nodes_fit tables_full forks_fit
+  sensible_50_50 = record { periodic = refl; due = refl; counted = refl; nodes = refl; full = refl; forks = refl; few = refl; low = refl; brief = refl }
 
   sensible_50_49 : Sensible 50 49 either
-  unfolding after either digits falls nodes_fit forks_fit
-  sensible_50_49 = record { periodic = refl; due = refl; counted = refl; nodes = refl; forks = refl; few = refl; low = refl; brief = refl }
+  unfolding after either digits falls nodes_fit tables_full forks_fit
+  sensible_50_49 = record { periodic = refl; due = refl; counted = refl; nodes = refl; full = refl; forks = refl; few = refl; low = refl; brief = refl }
 
   sensible_way : Sensible 1200 1000 way
-  unfolding after way digits falls nodes_fit forks_fit
-  sensible_way = record { periodic = refl; due = refl; counted = refl; nodes = refl; forks = refl; few = refl; low = refl; brief = refl }
+  unfolding after way digits falls nodes_fit tables_full forks_fit
+  sensible_way = record { periodic = refl; due = refl; counted = refl; nodes = refl; full = refl; forks = refl; few = refl; low = refl; brief = refl }
 
   way_text : Writes (codes "job=7\nperiod=1200\ndeadline=1000\nnodes=5\nkind=subtask\ntag=0\nticks=200\nafter=-\nkind=alternative\nafter=0\nkind=subtask\ntag=1\nticks=300\nafter=1\nkind=subtask\ntag=0\nticks=600\nafter=1\nkind=subtask\ntag=0\nticks=100\nafter=2,3\n") 7 1200 1000 way
   unfolding after way digits

@@ -1,9 +1,9 @@
 -- Numbers and nodes that make a job have a text.
-use Rattle.std.proofs.Common.{◌≡◌, ℕ, zero, suc, ◌+◌, ◌-◌, ◌<◌, ◌≤◌, Bool, true, false, cond, not, ◌&&◌, leb, List, [], ◌∷◌, ◌++◌, length, get_or, replicate, decimal, refl, sym, ap, ◌∙◌, subst, inl, inr, arith, length-append}
+use Rattle.std.proofs.Common.{◌≡◌, ℕ, zero, suc, ◌+◌, ◌-◌, ◌<◌, ◌≤◌, Bool, true, false, cond, not, ◌&&◌, eqb, leb, List, [], ◌∷◌, ◌++◌, length, get_or, replicate, decimal, refl, sym, ap, ◌∙◌, subst, inl, inr, arith, length-append}
 use Rattle.std.specs.Prelude.{codes}
 use Rattle.std.specs.List.{AllByRecursion}
 use Rattle.std.proofs.Math.Seq.{take-append_seam}
-use Rattle.std.proofs.lemmas.Bool.{and_from, and_parts, cases_eq, cases_lt, false≢true, le-leb, leb-true, not-true}
+use Rattle.std.proofs.lemmas.Bool.{and_from, and_parts, cases_eq, cases_lt, eqb-true, false≢true, le-leb, leb-true, not-true}
 use Rattle.std.proofs.lemmas.Fmt.{length-decimal-le}
 use Rattle.std.proofs.lemmas.List.{get_or_past, length-replicate}
 use Rattle.few.specs.declared.few.Few.{Few}
@@ -19,7 +19,7 @@ use Rattle.task.specs.Nodes.{Below, few_forks, fork_fits, ForksFit, NumbersFit}
 use Rattle.task.specs.Ranges.{fits, numbers_fit}
 use Rattle.text.specs.declared.key.Key as keys
 use Rattle.text.specs.declared.value.Kind as kinds
-use Rattle.text.specs.JobText.{node_slots, nodes_slots}
+use Rattle.text.specs.JobText.{Full, node_slots, nodes_slots, NodesFit}
 use Rattle.text.specs.Slots.{InRange, Sized, Slot, slot, text_of}
 use Rattle.text.specs.Value.{Listed, listed, Numeral, places, places_from, Rising, Small}
 use Rattle.text.proofs.Drafts.{made_reads}
@@ -54,6 +54,17 @@ node_fits v (n ∷ ns) ok (suc i) low =
     let rec = node_fits (suc v) ns (and_parts (numbers_fit n && falls v (after n)) (nodes_fit (suc v) ns) ok).1 i (omega arith) in
     (rec.0, subst (λ (k : ℕ). Below k (after (at ns i))) (let e : suc v + i ≡ v + suc i = omega arith in e) rec.1)
 
+-- each node's table has its 24 places
+unfoldable pub tables_full : List Node → Bool
+tables_full [] = true
+tables_full (n ∷ ns) = eqb (length (after n)) 24 && tables_full ns
+
+full_at : (ns : List Node) → tables_full ns ≡ true → (i : ℕ) → i < length ns → Full (at ns i)
+unfolding tables_full
+full_at [] ok i low = absurd (omega arith)
+full_at (n ∷ ns) ok zero low = eqb-true (length (after n)) 24 (and_parts (eqb (length (after n)) 24) (tables_full ns) ok).0
+full_at (n ∷ ns) ok (suc i) low = full_at ns (and_parts (eqb (length (after n)) 24) (tables_full ns) ok).1 i (omega arith)
+
 unfoldable pub forks_fit : List Node → ℕ → Bool
 forks_fit ns zero = true
 forks_fit ns (suc k) = forks_fit ns k && fork_fits ns k
@@ -82,6 +93,7 @@ pub record Sensible (t d : ℕ) (ns : List Node) : Type 0 where
   pub due : fits (Deadline t d) ≡ true
   pub counted : fits (Count (length ns)) ≡ true
   pub nodes : nodes_fit 0 ns ≡ true
+  pub full : tables_full ns ≡ true
   pub forks : forks_fit ns (length ns) ≡ true
   pub few : few_forks ns ≡ true
   pub low : leb t 14400 ≡ true
@@ -206,10 +218,17 @@ module _ (t d : ℕ) (ns : List Node) (is : Sensible t d ns) (n : ℕ) (numbered
       let all : length (text_of its_lines) ≡ 4 + (length (decimal n) + (1 + length rest)) = omega arith in
       (omega arith, omega arith)
 
+  all_fit : NodesFit ns
+  all_fit v low = record {
+    numbers = (node_fits 0 ns is.nodes v low).0;
+    full = full_at ns is.full v low;
+    below = λ u e. omega (arith, (node_fits 0 ns is.nodes v low).1 u e);
+  }
+
   pub writes_lines : Writes (text_of its_lines) n t d ns
   writes_lines = record {
     job = its_job;
-    reads = made_reads (text_of its_lines) (record { number = n; period = t; deadline = d; count = length ns }) ns its_job sized (record { written = refl; ranged = all_ranged }) made;
+    reads = made_reads (text_of its_lines) (record { number = n; period = t; deadline = d; count = length ns }) ns its_job sized (record { written = refl; ranged = all_ranged }) all_fit made;
     made = made;
   }
 
