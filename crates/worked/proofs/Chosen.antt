@@ -30,7 +30,6 @@ use Rattle.task.specs.Node.{is_sub_task}
 use Rattle.theory.specs.Pattern.{Pattern, WellFormed}
 use Rattle.window.specs.Greatest.{greatest}
 use Rattle.worked.specs.Cases.{after, Complete, AllPlaced, Order, served_by, two_sorts, way, Writes}
-use Rattle.worked.proofs.Alike.{sub_task_bare}
 use Rattle.worked.proofs.Fitting.{climbs, quickly, unfit_by}
 use Rattle.worked.proofs.Known.{asks, is_part, plan_asks, plan_has, plan_tasks, span_of}
 use Rattle.worked.proofs.Loading.{numbers_told, told}
@@ -118,7 +117,7 @@ module _ (local : Position → ℕ) (a b : ℕ) where
           let on_0 = engine_0 sits.seat.engine sits.there in
           let lines : line_of r ≡ (λ (t : Task). node_line t.node 0 t.window.offset t.window.deadline) =
           fun_ext (λ (t : Task). ap (λ e. node_line t.node e t.window.offset t.window.deadline) (at_0 (items r.seats) sits.seat (tag_at_node (at (nodes_of r.plan) t.node)) sits.alone on_0)) in
-          let they_are = plan_tasks n 1200 1000 way j is local r.plan.choice r.plan loaded.places.placed.planned is_sub_task sub_task_bare ∙ ap (λ c. tasks local way 1000 c is_sub_task) its_choice ∙ its_tasks in
+          let they_are = plan_tasks n 1200 1000 way j is local r.plan.choice r.plan loaded.places.placed.planned is_sub_task ∙ ap (λ c. tasks local way 1000 c is_sub_task) its_choice ∙ its_tasks in
           ap (λ k. title k r.plan.choice ++ flat_map (line_of r) (tasks_where r.plan is_sub_task)) is.its_number
           ∙ ap (λ c. title n c ++ flat_map (line_of r) (tasks_where r.plan is_sub_task)) its_choice
           ∙ ap (λ (f : Task → List ℕ). title n 1 ++ flat_map f (tasks_where r.plan is_sub_task)) lines

@@ -16,12 +16,10 @@ use Rattle.resident.specs.Seats.{all_tags, has_part, parts_of, some_task}
 use Rattle.slack.specs.declared.rule.Position.{Position}
 use Rattle.task.specs.declared.job.Job.{Job}
 use Rattle.task.specs.declared.node.Node.{Node}
-use Rattle.task.specs.Flaws.{graph}
+use Rattle.task.specs.Flaws.{graph, MadeOf}
 use Rattle.theory.specs.Pattern.{Pattern, WellFormed}
 use Rattle.window.specs.Path.{Possible}
 use Rattle.window.proofs.Paths.{path_end}
-use Rattle.worked.proofs.Alike.{pattern_same, span_same, tagged_bare, tasks_same}
-use Rattle.worked.proofs.Same.{bare, Told}
 
 -- what the part of a tag asks
 abbrev pub asks : (Position → ℕ) → (period deadline : ℕ) → List Node → (choice tag : ℕ) → Pattern
@@ -35,16 +33,16 @@ is_part local d ns c g = some_task (tasks local ns d c (tagged g))
 abbrev pub span_of : List Node → ℕ → ℕ
 span_of ns c = (lengths ns (concrete ns c)).span
 
-module _ (n t d : ℕ) (ns : List Node) (j : Job) (told : Told n t d ns j) where
+module _ (n t d : ℕ) (ns : List Node) (j : Job) (made : MadeOf n t d ns j) where
   module _ (local : Position → ℕ) (c : ℕ) (p : Plan) (is : IsPlan local j c p) where
-    pub plan_tasks : (test : Node → Bool) → ((m : Node) → test m ≡ test (bare m)) → tasks_where p test ≡ tasks local ns d c test
-    plan_tasks test same =
+    pub plan_tasks : (test : Node → Bool) → tasks_where p test ≡ tasks local ns d c test
+    plan_tasks test =
         tasks_are local j c p is test
-        ∙ ap (λ x. tasks local (graph j) x c test) told.its_deadline
-        ∙ tasks_same (graph j) ns told.long told.alike local d c test same
+        ∙ ap (λ x. tasks local (graph j) x c test) made.its_deadline
+        ∙ ap (λ ms. tasks local ms d c test) made.its_nodes
 
     pub plan_part : (g : ℕ) → part_of p g ≡ tasks local ns d c (tagged g)
-    plan_part g = plan_tasks (tagged g) (tagged_bare g)
+    plan_part g = plan_tasks (tagged g)
 
     pub plan_has : (g : ℕ) → has_part p g ≡ is_part local d ns c g
     plan_has g = ap some_task (plan_part g)
@@ -56,26 +54,26 @@ module _ (n t d : ℕ) (ns : List Node) (j : Job) (told : Told n t d ns j) where
     plan_asks g =
         pattern_is local j c p is (part_of p g)
         ∙ ap (pattern_for j c) (plan_part g)
-        ∙ ap (λ x. pattern x j.deadline (graph j) c (tasks local ns d c (tagged g))) told.its_period
-        ∙ ap (λ x. pattern t x (graph j) c (tasks local ns d c (tagged g))) told.its_deadline
-        ∙ pattern_same (graph j) ns told.long told.alike t d c (tasks local ns d c (tagged g))
+        ∙ ap (λ x. pattern x j.deadline (graph j) c (tasks local ns d c (tagged g))) made.its_period
+        ∙ ap (λ x. pattern t x (graph j) c (tasks local ns d c (tagged g))) made.its_deadline
+        ∙ ap (λ ms. pattern t d ms c (tasks local ns d c (tagged g))) made.its_nodes
 
     pub asks_formed : (g : ℕ) → WellFormed (asks local t d ns c g)
     asks_formed g = subst WellFormed (plan_asks g) (part_formed p g)
 
   module _ (c : ℕ) where
     its_span : (lengths (graph j) (concrete (graph j) c)).span ≡ span_of ns c
-    its_span = span_same (graph j) ns told.long told.alike c
+    its_span = ap (λ ms. span_of ms c) made.its_nodes
 
     pub is_possible : span_of ns c ≤ d → Possible (graph j) c j.deadline
     is_possible short u v s path =
         let is = lengths_are (graph j) (job_sound j) c (concrete (graph j) c) (concrete_is (graph j) j.upward c) in
         let m = path_end path in
-        omega (arith, (is.heads v m).bound u s path, is.span.bound v m, its_span, told.its_deadline)
+        omega (arith, (is.heads v m).bound u s path, is.span.bound v m, its_span, made.its_deadline)
 
     pub possible_short : Possible (graph j) c j.deadline → span_of ns c ≤ d
     possible_short possible =
         let is = lengths_are (graph j) (job_sound j) c (concrete (graph j) c) (concrete_is (graph j) j.upward c) in
         let (v, m, same) = is.span.attained in
         let (u, path) = (is.heads v m).attained in
-        omega (arith, possible u v _ path, same, its_span, told.its_deadline)
+        omega (arith, possible u v _ path, same, its_span, made.its_deadline)

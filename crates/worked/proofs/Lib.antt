@@ -1,5 +1,3 @@
-pub mod Same
-pub mod Alike
 pub mod Known
 pub mod Fitting
 pub mod Sitting

@@ -1,5 +1,5 @@
 -- What loading answers of a job of known numbers and nodes.
-use Rattle.std.proofs.Common.{◌≡◌, ℕ, ◌<◌, ◌≤◌, true, List, length, refl, sym, ap, ◌∙◌, subst, inl, inr, arith}
+use Rattle.std.proofs.Common.{◌≡◌, ℕ, ◌<◌, ◌≤◌, true, List, length, refl, sym, ap, ◌∙◌, subst, arith}
 use Rattle.std.specs.Prelude.{Some}
 use Rattle.board.specs.declared.refusal.Refusal.{Refusal}
 use Rattle.board.specs.declared.refusal.Refusal.TheVariants.{Fault, NumberTaken, BoardFull, NoChoice, NoPlacement, NotResident, ShortBuffer}
@@ -11,44 +11,30 @@ use Rattle.resident.specs.declared.resident.Resident.{Resident}
 use Rattle.task.specs.declared.job.Job.{Job}
 use Rattle.task.specs.declared.node.Node.{Node}
 use Rattle.task.specs.declared.node.Numbering.TheVariants.{Choice}
-use Rattle.task.specs.Flaws.{graph}
-use Rattle.task.specs.Graph.{at}
+use Rattle.task.specs.Flaws.{graph, MadeOf}
 use Rattle.task.specs.Picks.{numbers}
-use Rattle.text.specs.declared.fault.Fault as faults
 use Rattle.text.specs.JobText.{Reads}
-use Rattle.text.specs.JobText as texts
+use Rattle.text.proofs.Only.{one_job, refused_unread}
 use Rattle.theory.specs.Pattern.{WellFormed}
 use Rattle.worked.specs.Cases.{Complete, Placed, Gets, Writes}
-use Rattle.worked.proofs.Alike.{numbers_same}
 use Rattle.worked.proofs.Known.{asks, asks_formed, is_part, is_possible, plan_asks, plan_has, possible_short, span_of}
-use Rattle.worked.proofs.Same.{Alike, same_job, Told}
 use Rattle.worked.proofs.Sitting.{part_sits}
-
--- the text of a job has no fault
-no_fault : (text : List ℕ) (j : Job) → Reads text j → (f : faults.Fault) → texts.Refused text f → ⊥
-no_fault text j reads faults.TheVariants.Size bad = elim bad [ inl none ↦ omega (arith, reads.sized.0) | inr much ↦ omega (arith, reads.sized.1) ]
-no_fault text j reads (faults.TheVariants.Line n) bad = bad.unread j reads
-no_fault text j reads (faults.TheVariants.Form n) bad = bad.unread j reads
-no_fault text j reads (faults.TheVariants.Range n) bad = bad.unread j reads
-no_fault text j reads (faults.TheVariants.Fork v) bad = bad.unread j reads
-no_fault text j reads faults.TheVariants.Forks bad = bad.unread j reads
 
 module _ (rules : Rules) (rs : List Resident) (text : List ℕ) (n t d : ℕ) (ns : List Node) (writes : Writes text n t d ns) where
   -- each job of the text has these numbers and nodes
-  pub told : (j : Job) → Reads text j → Told n t d ns j
+  pub told : (j : Job) → Reads text j → MadeOf n t d ns j
   told j reads =
-      let same = same_job text j writes.job reads writes.reads in
+      let same = one_job text writes.job j writes.reads reads in
       let made = writes.made in
       record {
         its_number = same.its_number ∙ made.its_number;
         its_period = same.its_period ∙ made.its_period;
         its_deadline = same.its_deadline ∙ made.its_deadline;
-        long = same.long ∙ ap length made.its_nodes;
-        alike = subst (λ (l : List Node). (i : ℕ) → Alike (at (graph j) i) (at l i)) made.its_nodes same.alike;
+        its_nodes = same.its_nodes ∙ made.its_nodes;
       }
 
   pub numbers_told : (j : Job) → Reads text j → numbers Choice (graph j) ≡ numbers Choice ns
-  numbers_told j reads = let is = told j reads in numbers_same (graph j) ns is.long is.alike Choice
+  numbers_told j reads = ap (numbers Choice) (told j reads).its_nodes
 
   -- the part of a tag, where the job is so planned
   abbrev pub Asking : ℕ → ℕ → Type 0
@@ -70,7 +56,7 @@ module _ (rules : Rules) (rs : List Resident) (text : List ℕ) (n t d : ℕ) (n
 
     -- a choice that is possible and whose parts all fit is enough
     pub placed_by : (c : ℕ) → c < numbers Choice ns → span_of ns c ≤ d → ((g : ℕ) → Asking c g → Taken c g) → Placed rules rs text
-    placed_by c is_choice short takes (Fault f) bad = no_fault text writes.job writes.reads f bad
+    placed_by c is_choice short takes (Fault f) bad = refused_unread text f bad writes.job writes.reads
     placed_by c is_choice short takes NumberTaken (j, reads, taken) = taken (its_free j reads)
     placed_by c is_choice short takes BoardFull (j, reads, _, full) = omega arith
     placed_by c is_choice short takes NoChoice (j, comes, none) =
@@ -105,7 +91,7 @@ module _ (rules : Rules) (rs : List Resident) (text : List ℕ) (n t d : ℕ) (n
       pub refused_by_10 : (c : ℕ) → c < numbers Choice ns → span_of ns c ≤ d → ((c : ℕ) → c < numbers Choice ns → span_of ns c ≤ d → Nowhere c) → Gets rules rs text 10
       refused_by_10 c is_choice short nowhere = record { never = none_placed nowhere; only = only } where
         only : (f : Refusal) → LoadRefused rules rs text f → refusal_number f ≡ 10
-        only (Fault f) bad = absurd (no_fault text writes.job writes.reads f bad)
+        only (Fault f) bad = absurd (refused_unread text f bad writes.job writes.reads)
         only NumberTaken (j, reads, taken) = absurd (taken (its_free j reads))
         only BoardFull (j, reads, _, full) = absurd (omega arith)
         only NoChoice (j, comes, none) = absurd (none (c, omega (arith, numbers_told j comes.reads), is_possible n t d ns j (told j comes.reads) c short))
@@ -123,7 +109,7 @@ module _ (rules : Rules) (rs : List Resident) (text : List ℕ) (n t d : ℕ) (n
         only = only;
       } where
         only : (f : Refusal) → LoadRefused rules rs text f → refusal_number f ≡ 9
-        only (Fault f) bad = absurd (no_fault text writes.job writes.reads f bad)
+        only (Fault f) bad = absurd (refused_unread text f bad writes.job writes.reads)
         only NumberTaken (j, reads, taken) = absurd (taken (its_free j reads))
         only BoardFull (j, reads, _, full) = absurd (omega arith)
         only NoChoice bad = refl
