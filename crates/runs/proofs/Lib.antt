@@ -5,4 +5,5 @@ pub mod Choice
 pub mod Arrivals
 pub mod Slots
 pub mod Workload
+pub mod Kept
 pub mod NeverLate

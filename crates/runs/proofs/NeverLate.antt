@@ -16,34 +16,27 @@ use Rattle.runs.proofs.Sums.{sum_le, sum_map, sum_none, sum_shift}
 use Rattle.runs.proofs.Tasks.{owed}
 use Rattle.runs.proofs.Arrivals.{demand_reverse, legal_arrivals, well_formed}
 use Rattle.runs.proofs.Slots.{Alive, all_alive, all_placed, arrive_good, arrive_job, arrive_timely, arrive_work, asks, each_good, expire_same, Good, Over, owes, owes_flat, Placed, Timely}
+use Rattle.runs.proofs.Kept.{Kept, kept_arrive, kept_run, kept_start, none_at_start, run_good, run_jobs, timely_each}
 use Rattle.runs.proofs.Workload.{Workload, workload_after}
 
 -- what holds after every event, with the served masks so far
 record Inv (engines : ℕ) (jobs : List Job) (past : List (ℕ → Bool)) (st : State) : Type 0 where
   clock_is : length past ≡ st.clock
   none : st.lates ≡ 0
-  jobs_are : map (λ s. s.job) st.slots ≡ jobs
-  good : AllByRecursion (Good engines) st.slots
-  timely : AllByRecursion (Timely st.clock) (tasks_of st.slots)
+  kept : Kept engines jobs st.clock st.slots
   work : Workload past st.clock st.slots
 
 inv_arrive : (engines : ℕ) (jobs : List Job) (past : List (ℕ → Bool)) (st : State) (j b : ℕ) → Inv engines jobs past st → Inv engines jobs past (step st (arrive j b))
 inv_arrive engines jobs past st j b i =
     let t = st.clock in
-    let slots = st.slots in
     record {
       clock_is = i.clock_is;
       none = i.none;
-      jobs_are = map_again (λ s. s.job) (arrive_at t j b) (arrive_job engines t j b) slots ∙ i.jobs_are;
-      good = all_map (Good engines) (arrive_at t j b) slots (all_weaker (Good engines) (λ s. Good engines (arrive_at t j b s)) (arrive_good engines t j b) slots i.good);
-      timely = all_flat (Timely t) (λ s. s.tasks) (map (arrive_at t j b) slots)
-          (all_map (λ s. AllByRecursion (Timely t) s.tasks) (arrive_at t j b) slots
-          (all_both (Good engines) (λ s. AllByRecursion (Timely t) s.tasks) (λ s. AllByRecursion (Timely t) ((arrive_at t j b s).tasks)) (arrive_timely engines t j b) slots i.good
-          (all_unflat (Timely t) (λ s. s.tasks) slots i.timely)));
+      kept = kept_arrive engines jobs t st.slots i.kept j b;
       work = record {
         since = λ e d.
             let (x, l, h) = i.work.since e d in
-            let k = sum_shift (Good engines) (owes e d) (asks e x d) (arrive_at t j b) (arrive_work engines t j b e x d l) slots i.good in
+            let k = sum_shift (Good engines) (owes e d) (asks e x d) (arrive_at t j b) (arrive_work engines t j b e x d l) st.slots i.kept.good in
             (x, l, omega arith);
       };
     }
@@ -97,16 +90,13 @@ module _ (engines : ℕ) (supply : ℕ → ℕ → ℕ) (jobs : List Job) (fits 
   inv_tick past rest st on done served i =
       let t = st.clock in
       let slots = run t on done st.slots in
-      let adv = advance (λ k. next k t (tasks_of st.slots)) on done in
-      let good = all_map (Good engines) (each adv) st.slots
-      (all_weaker (Good engines) (λ s. Good engines (each adv s)) (each_good engines (λ k. next k t (tasks_of st.slots)) on done) st.slots i.good) in
       let clock_is : length (past ++ (on ∷ [])) ≡ t + 1 = omega (arith, length_push past on, i.clock_is) in
-      let jobs_are = map_again (λ (s : Slot). s.job) (each adv) (λ _. refl) st.slots ∙ i.jobs_are in
-      let work = workload_after engines t past i.clock_is st.slots i.good i.work on done in
+      let good = run_good engines jobs t st.slots i.kept on done in
+      let work = workload_after engines t past i.clock_is st.slots i.kept.good i.work on done in
       let timely = all_timely engines supply jobs fits (t + 1) slots good
-      (settled engines supply jobs fits (past ++ (on ∷ [])) rest (t + 1) slots clock_is jobs_are good work served) in
+      (settled engines supply jobs fits (past ++ (on ∷ [])) rest (t + 1) slots clock_is (run_jobs engines jobs t st.slots i.kept on done) good work served) in
       let half : State = record { clock = t + 1; slots = slots; lates = st.lates } in
-      let inv : Inv engines jobs (past ++ (on ∷ [])) half = record { clock_is = clock_is; none = i.none; jobs_are = jobs_are; good = good; timely = timely; work = work } in
+      let inv : Inv engines jobs (past ++ (on ∷ [])) half = record { clock_is = clock_is; none = i.none; kept = kept_run engines jobs t st.slots i.kept on done timely; work = work } in
       subst (Inv engines jobs (past ++ (on ∷ []))) (sym (expire_same half timely)) inv
 
   on_time : (past : List (ℕ → Bool)) (st : State) → Inv engines jobs past st → OnTime st
@@ -121,14 +111,14 @@ module _ (engines : ℕ) (supply : ℕ → ℕ → ℕ) (jobs : List Job) (fits 
         (λ s g a l. all_both (Both (free_at s.job s.arrivals)) (Timely st.clock) (λ p. p.phase ≡ finished)
         (λ p b c. go p.phase refl b.0.not_late c (le-leb _ _ (omega (arith, b.1)))) s.tasks
         (all_both Alive (Over (free_at s.job s.arrivals)) (Both (free_at s.job s.arrivals)) (λ p b c. (b, c)) s.tasks g.alive g.over) a)
-        st.slots i.good (all_unflat (Timely st.clock) (λ s. s.tasks) st.slots i.timely);
+        st.slots i.kept.good (timely_each engines jobs st.clock st.slots i.kept);
   }
     where
       Both : ℕ → OpenTask → Type 0
       Both n p = Alive p × Over n p
 
       alive : AllByRecursion Alive (tasks_of st.slots)
-      alive = all_alive engines st.slots i.good
+      alive = all_alive engines st.slots i.kept.good
 
       go : {d : Bool} (f : Phase) → {g : Phase} → g ≡ f → is_late g ≡ false → (is_pending g && d) ≡ false → d ≡ true → g ≡ finished
       go {d} (pending n) {g} q a b l = absurd (both_ways d (let z : (is_pending (pending n) && d) ≡ false = rw q at b in z) l)
@@ -136,7 +126,7 @@ module _ (engines : ℕ) (supply : ℕ → ℕ → ℕ) (jobs : List Job) (fits 
       go late {g} q a b l = absurd (true≢false (let z : is_late late ≡ false = rw q at a in z))
 
       closed : AllByRecursion (λ p. p.task.due ≤ st.clock → p.phase ≡ finished) (tasks_of st.slots)
-      closed = all_both Alive (Timely st.clock) (λ p. p.task.due ≤ st.clock → p.phase ≡ finished) (λ p a b l. go p.phase refl a.not_late b (le-leb _ _ l)) (tasks_of st.slots) alive i.timely
+      closed = all_both Alive (Timely st.clock) (λ p. p.task.due ≤ st.clock → p.phase ≡ finished) (λ p a b l. go p.phase refl a.not_late b (le-leb _ _ l)) (tasks_of st.slots) alive i.kept.timely
 
   through : (past : List (ℕ → Bool)) (st : State) (es : List Event) → Inv engines jobs past st → Supplied engines supply (past ++ masks es)
       → (n : ℕ) → OnTime (play st (take n es))
@@ -151,22 +141,9 @@ inv_start : (engines : ℕ) (jobs : List Job) → AllByRecursion (Sound engines)
 inv_start engines jobs sound = record {
   clock_is = refl;
   none = refl;
-  jobs_are = same_jobs jobs;
-  good = all_map (Good engines) (λ j. record { job = j; arrivals = []; tasks = [] }) jobs
-      (all_weaker (Sound engines) (λ j. Good engines (record { job = j; arrivals = []; tasks = [] }))
-      (λ j s. record { sound = s; legal = tt; covered = λ _ _ _. omega arith; alive = tt; placed = tt; over = tt }) jobs sound);
-  timely = all_flat (Timely 0) (λ s. s.tasks) (start jobs).slots
-      (all_map (λ s. AllByRecursion (Timely 0) s.tasks) (λ j. record { job = j; arrivals = []; tasks = [] }) jobs (all_from_mem _ jobs (λ _ _. tt)));
-  work = record { since = λ e d. (0, omega arith, omega (arith, nothing e d jobs)) };
+  kept = kept_start engines jobs sound;
+  work = record { since = λ e d. (0, omega arith, omega (arith, none_at_start (owes e d) (λ _. refl) jobs)) };
 }
-  where
-    same_jobs : (js : List Job) → map (λ s. s.job) (start js).slots ≡ js
-    same_jobs [] = refl
-    same_jobs (j ∷ js) = ap (λ ks. j ∷ ks) (same_jobs js)
-
-    nothing : (e d : ℕ) (js : List Job) → sum_by (owes e d) (start js).slots ≡ 0
-    nothing e d [] = refl
-    nothing e d (j ∷ js) = omega (arith, nothing e d js)
 
 pub never_late : NeverLate
 never_late engines supply jobs es sound fits served = through engines supply jobs fits [] (start jobs) es (inv_start engines jobs sound) served
