@@ -1,5 +1,5 @@
 -- What every board keeps while nothing is overdue: its jobs, and what holds of their slots.
-use Rattle.std.proofs.Common.{◌≡◌, ℕ, ◌+◌, Bool, List, [], ◌∷◌, map, sum_by, refl, ◌∙◌, map-id, arith}
+use Rattle.std.proofs.Common.{◌≡◌, ℕ, ◌+◌, Bool, List, [], map, sum_by, refl, ◌∙◌, map-id, arith}
 use Rattle.std.specs.List.{AllByRecursion}
 use Rattle.runs.specs.Job.{Job, Sound}
 use Rattle.runs.specs.State.{each, Slot, tasks_of}
@@ -23,7 +23,7 @@ module _ (engines : ℕ) (jobs : List Job) (t : ℕ) (slots : List Slot) (kept :
     jobs_are = map_again (λ s. s.job) (arrive_at t j b) (arrive_job engines t j b) slots ∙ kept.jobs_are;
     good = all_map (Good engines) (arrive_at t j b) slots (all_weaker (Good engines) (λ s. Good engines (arrive_at t j b s)) (arrive_good engines t j b) slots kept.good);
     timely = all_flat (Timely t) (λ s. s.tasks) (map (arrive_at t j b) slots)
-      (all_map (λ s. AllByRecursion (Timely t) s.tasks) (arrive_at t j b) slots
+        (all_map (λ s. AllByRecursion (Timely t) s.tasks) (arrive_at t j b) slots
         (all_both (Good engines) (λ s. AllByRecursion (Timely t) s.tasks) (λ s. AllByRecursion (Timely t) (arrive_at t j b s).tasks) (arrive_timely engines t j b) slots kept.good timely_each));
   }
 
@@ -31,7 +31,7 @@ module _ (engines : ℕ) (jobs : List Job) (t : ℕ) (slots : List Slot) (kept :
   run_good on done =
       let adv = advance (λ e. next e t (tasks_of slots)) on done in
       all_map (Good engines) (each adv) slots
-        (all_weaker (Good engines) (λ s. Good engines (each adv s)) (each_good engines (λ e. next e t (tasks_of slots)) on done) slots kept.good)
+      (all_weaker (Good engines) (λ s. Good engines (each adv s)) (each_good engines (λ e. next e t (tasks_of slots)) on done) slots kept.good)
 
   pub run_jobs : (on done : ℕ → Bool) → map (λ s. s.job) (run t on done slots) ≡ jobs
   run_jobs on done = map_again (λ (s : Slot). s.job) (each (advance (λ e. next e t (tasks_of slots)) on done)) (λ _. refl) slots ∙ kept.jobs_are
@@ -47,7 +47,7 @@ pub kept_start : (engines : ℕ) (jobs : List Job) → AllByRecursion (Sound eng
 kept_start engines jobs sound = record {
   jobs_are = map_map (λ (s : Slot). s.job) fresh jobs ∙ map-id jobs;
   good = all_map (Good engines) fresh jobs
-    (all_weaker (Sound engines) (λ j. Good engines (fresh j)) (λ j s. record { sound = s; legal = tt; covered = λ _ _ _. omega arith; alive = tt; placed = tt; over = tt }) jobs sound);
+      (all_weaker (Sound engines) (λ j. Good engines (fresh j)) (λ j s. record { sound = s; legal = tt; covered = λ _ _ _. omega arith; alive = tt; placed = tt; over = tt }) jobs sound);
   timely = all_flat (Timely 0) (λ s. s.tasks) (map fresh jobs) (all_map (λ s. AllByRecursion (Timely 0) s.tasks) fresh jobs (all_from_mem _ jobs (λ _ _. tt)));
 }
 

@@ -7,3 +7,6 @@ pub mod Slots
 pub mod Workload
 pub mod Kept
 pub mod NeverLate
+pub mod Keys
+pub mod Account
+pub mod Overload

@@ -6,16 +6,15 @@ use Rattle.std.proofs.lemmas.List.{drop-append-le, length_push}
 use Rattle.theory.specs.Demand.{demand}
 use Rattle.theory.proofs.Trains.{demand_is_greatest}
 use Rattle.runs.specs.Job.{AllFit, asked, Job, pattern_on, Sound}
-use Rattle.runs.specs.State.{each, finished, is_late, is_pending, late, left_of, OpenTask, pending, Phase, Slot, State, tasks_of}
-use Rattle.runs.specs.Next.{next}
-use Rattle.runs.specs.Events.{advance, arrive, arrive_at, Event, free_at, overdue, play, run, start, step, tick}
+use Rattle.runs.specs.State.{finished, is_late, is_pending, late, left_of, OpenTask, pending, Phase, Slot, State, tasks_of}
+use Rattle.runs.specs.Events.{arrive, arrive_at, Event, free_at, overdue, play, run, start, step, tick}
 use Rattle.runs.specs.Runs.{masks, OnTime, Supplied}
 use Rattle.runs.specs.Theorems.{NeverLate}
-use Rattle.runs.proofs.Lists.{all_both, all_flat, all_from_mem, all_map, all_mem, all_unflat, all_weaker, map_again}
+use Rattle.runs.proofs.Lists.{all_both, all_from_mem, all_mem, all_weaker}
 use Rattle.runs.proofs.Sums.{sum_le, sum_map, sum_none, sum_shift}
 use Rattle.runs.proofs.Tasks.{owed}
 use Rattle.runs.proofs.Arrivals.{demand_reverse, legal_arrivals, well_formed}
-use Rattle.runs.proofs.Slots.{Alive, all_alive, all_placed, arrive_good, arrive_job, arrive_timely, arrive_work, asks, each_good, expire_same, Good, Over, owes, owes_flat, Placed, Timely}
+use Rattle.runs.proofs.Slots.{Alive, all_alive, all_placed, arrive_work, asks, expire_same, Good, Over, owes, owes_flat, Placed, Timely}
 use Rattle.runs.proofs.Kept.{Kept, kept_arrive, kept_run, kept_start, none_at_start, run_good, run_jobs, timely_each}
 use Rattle.runs.proofs.Workload.{Workload, workload_after}
 

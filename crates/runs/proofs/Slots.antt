@@ -52,7 +52,7 @@ module _ (engines t b : ℕ) (s : Slot) (ok : Good engines s) (in_range : b < le
   new_windows : AllByRecursion (SoundTask engines s.job.deadline) (branch_of s.job b)
   new_windows = all_at (AllByRecursion (SoundTask engines s.job.deadline)) s.job.branches b [] in_range ok.sound.tasks
 
-  wants : (e x d : ℕ) → sum_by (wanted e x d) (arrived t b s).tasks ≡ sum_by (share_of e x d t) (branch_of s.job b)
+  pub wants : (e x d : ℕ) → sum_by (wanted e x d) (arrived t b s).tasks ≡ sum_by (share_of e x d t) (branch_of s.job b)
   wants e x d =
       sum_map (wanted e x d) (opened s.job.number t) (branch_of s.job b)
       ∙ sum_same (SoundTask engines s.job.deadline) (λ w. wanted e x d (opened s.job.number t w)) (share_of e x d t) (λ w h. opened_wants e x d s.job.number t w h.opens) (branch_of s.job b) new_windows
