@@ -47,7 +47,7 @@ module _ (engines e : ℕ) (j : Job) (sound : Sound engines j) where
   }
 
 module _ (e : ℕ) (j : Job) where
-  branches_are : length (pattern_on e j).branches ≡ length j.branches
+  pub branches_are : length (pattern_on e j).branches ≡ length j.branches
   branches_are = length-map j.branches (λ branch. map window_of (filter (on_engine e) branch))
 
   -- the oldest first, with later ones after them

@@ -10,3 +10,9 @@ pub mod NeverLate
 pub mod Keys
 pub mod Account
 pub mod Overload
+pub mod Trains
+pub mod Calls
+pub mod Lean
+pub mod Story
+pub mod LateWhenOverloaded
+pub mod FitsExactly
