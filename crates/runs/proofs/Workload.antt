@@ -5,7 +5,7 @@ use Rattle.std.proofs.lemmas.Bool.{and_parts, both_ways, cases_Bool, eqb-true, l
 use Rattle.std.proofs.lemmas.List.{drop-append-le, drop_all, length_push}
 use Rattle.std.proofs.lemmas.List.Sums.{sum_by-append}
 use Rattle.runs.specs.State.{each, is_pending, OpenTask, Slot, tasks_of}
-use Rattle.runs.specs.Next.{Key, next, ready}
+use Rattle.runs.specs.Next.{Key, key_of, next, NotAfter, ready}
 use Rattle.runs.specs.Events.{advance, run}
 use Rattle.runs.proofs.Lists.{all_both, all_mem, Mem, pick}
 use Rattle.runs.proofs.Sums.{sum_flat, sum_le, sum_le_each, sum_lt, sum_map}
@@ -52,7 +52,7 @@ module _ (engines t : ℕ) (past : List (ℕ → Bool)) (clock_is : length past 
       go None q = absurd (both_ways _ (all_mem (λ p. ready e t p ≡ false) (tasks_of slots) p m (next_none e t (tasks_of slots) q)) (and_parts _ _ r).0)
       go (Some c) q =
           let n = next_some e t (tasks_of slots) c q in
-          let first = all_mem (λ p. ready e t p ≡ true → c.due ≤ p.task.due) (tasks_of slots) p m n.earliest (and_parts _ _ r).0 in
+          let first = (all_mem (λ p. ready e t p ≡ true → NotAfter c (key_of p.task)) (tasks_of slots) p m n.first (and_parts _ _ r).0).due in
           let last : p.task.due ≤ d = leb-true _ _ (and_parts (ready e t p) _ r).1 in
           let (pend, rest) = and_parts (is_pending n.chosen.phase) _ n.is_ready in
           let (here, _) = and_parts (n.chosen.task.engine == e) _ rest in

@@ -6,7 +6,10 @@
 --   sooner k o         the first of k and what was found so far
 --   better e t o p     the same, if p is ready
 --   next e t ps        the first of those that are ready on the engine e
-use Rattle.std.specs.Prelude.{ℕ, Bool, cond, ◌&&◌, ◌||◌, ◌==◌, nat_le, nat_lt, List, fold, Option, Some, None}
+--   NotAfter k l       k is due no later than l; where both are due together, its job is no higher; and of the same job, its node is no higher
+--   IsNext e t ps k    k is the key of one that is ready on the engine e, and comes after none of those
+use Rattle.std.specs.Prelude.{◌≡◌, ℕ, ◌≤◌, Bool, true, cond, ◌&&◌, ◌||◌, ◌==◌, nat_le, nat_lt, List, fold, Option, Some, None, Any}
+use Rattle.std.specs.List.{AllByRecursion}
 use Rattle.runs.specs.State.{is_pending, OpenTask, Task}
 
 pub record Key : Type 0 where
@@ -32,3 +35,12 @@ better e t o p = cond (ready e t p) (sooner (key_of p.task) o) o
 
 abbrev pub next : ℕ → ℕ → List OpenTask → Option Key
 next e t ps = fold (better e t) None ps
+
+pub record NotAfter (k l : Key) : Type 0 where
+  pub due : k.due ≤ l.due
+  pub job : k.due ≡ l.due → k.job ≤ l.job
+  pub node : k.due ≡ l.due → k.job ≡ l.job → k.node ≤ l.node
+
+pub record IsNext (e t : ℕ) (ps : List OpenTask) (k : Key) : Type 0 where
+  pub found : Any (λ p. (ready e t p ≡ true) × (key_of p.task ≡ k)) ps
+  pub first : AllByRecursion (λ p. ready e t p ≡ true → NotAfter k (key_of p.task)) ps

@@ -1,12 +1,18 @@
 -- The theorems of a board's run.
+--   NextIsFirst           what an engine runs next is the first of its sub-tasks that are ready: by due, then by job, then by node; and nothing only where none is ready
 --   NeverLate             where all engines fit and are served at least their supply, everything is on time after every event, whatever arrives and whatever is reported
 --   LateWhenOverloaded    where the jobs ask more of some engine than it supplies, there is a run without reports in which something is late
 --   FitsExactly           so all engines fit exactly when no run is ever late
-use Rattle.std.specs.Prelude.{◌≡◌, ℕ, ◌<◌, ◌≤◌, ◌↔◌, List, take}
+use Rattle.std.specs.Prelude.{◌≡◌, ℕ, ◌<◌, ◌≤◌, ◌↔◌, false, List, take, MatchOption}
 use Rattle.std.specs.List.{AllByRecursion}
 use Rattle.runs.specs.Events.{Event, play, start}
 use Rattle.runs.specs.Job.{AllFit, asked, Distinct, Job, Sound}
+use Rattle.runs.specs.Next.{IsNext, next, ready}
 use Rattle.runs.specs.Runs.{Lawful, masks, OnTime, Quiet, Run, Supplied}
+use Rattle.runs.specs.State.{OpenTask}
+
+abbrev pub NextIsFirst : Type 0
+NextIsFirst = (e t : ℕ) (ps : List OpenTask) → MatchOption (next e t ps) (AllByRecursion (λ p. ready e t p ≡ false) ps) (IsNext e t ps)
 
 abbrev pub NeverLate : Type 0
 NeverLate =
