@@ -3,8 +3,7 @@ use Rattle.std.proofs.Common.{◌≡◌, ℕ, ◌+◌, Bool, List, [], map, sum_
 use Rattle.std.specs.List.{AllByRecursion}
 use Rattle.runs.specs.Job.{Job, Sound}
 use Rattle.runs.specs.State.{each, Slot, tasks_of}
-use Rattle.runs.specs.Next.{next}
-use Rattle.runs.specs.Events.{advance, arrive_at, run, start}
+use Rattle.runs.specs.Events.{advance, arrive_at, choices, run, start}
 use Rattle.runs.proofs.Lists.{all_both, all_flat, all_from_mem, all_map, all_unflat, all_weaker, map_again, map_map}
 use Rattle.runs.proofs.Sums.{sum_map, sum_zero}
 use Rattle.runs.proofs.Slots.{arrive_good, arrive_job, arrive_timely, each_good, Good, Timely}
@@ -29,12 +28,12 @@ module _ (engines : ℕ) (jobs : List Job) (t : ℕ) (slots : List Slot) (kept :
 
   pub run_good : (on done : ℕ → Bool) → AllByRecursion (Good engines) (run t on done slots)
   run_good on done =
-      let adv = advance (λ e. next e t (tasks_of slots)) on done in
+      let adv = advance (choices t slots) on done in
       all_map (Good engines) (each adv) slots
-      (all_weaker (Good engines) (λ s. Good engines (each adv s)) (each_good engines (λ e. next e t (tasks_of slots)) on done) slots kept.good)
+      (all_weaker (Good engines) (λ s. Good engines (each adv s)) (each_good engines (choices t slots) on done) slots kept.good)
 
   pub run_jobs : (on done : ℕ → Bool) → map (λ s. s.job) (run t on done slots) ≡ jobs
-  run_jobs on done = map_again (λ (s : Slot). s.job) (each (advance (λ e. next e t (tasks_of slots)) on done)) (λ _. refl) slots ∙ kept.jobs_are
+  run_jobs on done = map_again (λ (s : Slot). s.job) (each (advance (choices t slots) on done)) (λ _. refl) slots ∙ kept.jobs_are
 
   -- after the work of a tick, if nothing is overdue then
   pub kept_run : (on done : ℕ → Bool) → AllByRecursion (Timely (t + 1)) (tasks_of (run t on done slots)) → Kept engines jobs (t + 1) (run t on done slots)

@@ -1,5 +1,5 @@
 -- Late when overloaded.
-use Rattle.std.proofs.Common.{◌≡◌, ℕ, ◌+◌, ◌-◌, ◌<◌, ◌≤◌, true, false, nat_lt, List, [], ◌∷◌, map, reverse, length, drop, sum_by, count_by, refl, sym, ap, ◌∙◌, subst, inl, inr, arith}
+use Rattle.std.proofs.Common.{◌≡◌, ℕ, ◌+◌, ◌-◌, ◌<◌, ◌≤◌, true, false, nat_lt, List, [], ◌∷◌, map, reverse, length, drop, sum_by, refl, sym, ap, ◌∙◌, subst, inl, inr, arith}
 use Rattle.std.specs.List.{AllByRecursion}
 use Rattle.std.proofs.lemmas.Bool.{cases_lt, le-ltb, lt-ltb}
 use Rattle.std.proofs.lemmas.List.Sums.{sum_by-cons}
@@ -7,7 +7,7 @@ use Rattle.theory.specs.Pattern.{Arrival, demand_in, part}
 use Rattle.theory.specs.Demand.{demand}
 use Rattle.runs.specs.Job.{Apart, asked, Job, pattern_on, Sound}
 use Rattle.runs.specs.Events.{play, start}
-use Rattle.runs.specs.Runs.{masks}
+use Rattle.runs.specs.Runs.{masks, served_ticks}
 use Rattle.runs.proofs.Lists.{all_both, all_unmap}
 use Rattle.runs.proofs.Sums.{sum_map, sum_same}
 use Rattle.runs.proofs.Arrivals.{arrivals_legal, branches_are, demand_reverse, Legal, well_formed}
@@ -94,7 +94,7 @@ late_when_overloaded engines supply jobs laws sound distinct e n known over =
     let a : x - x ≡ 0 = omega arith in
     let b : y - x ≡ n = omega arith in
     let none = (laws e known).none in
-    let short : count_by (λ m. m e) (drop x (masks es)) < asked_so_far e x st.clock st = omega (arith, w.reached, ap (supply e) a, ap (supply e) b) in (
+    let short : served_ticks e (drop x (masks es)) < asked_so_far e x st.clock st = omega (arith, w.reached, ap (supply e) a, ap (supply e) b) in (
       es,
       record { all_granted = i.all_granted; supplied = story_supplied supply x ps engines laws y },
       story_silent supply x ps y,

@@ -1,5 +1,5 @@
 -- Nothing is ever late.
-use Rattle.std.proofs.Common.{◌≡◌, ℕ, zero, suc, ◌+◌, ◌-◌, ◌<◌, ◌≤◌, Bool, true, false, true≢false, ◌&&◌, ◌==◌, nat_le, List, [], ◌∷◌, ◌++◌, map, reverse, length, take, drop, sum_by, count_by, refl, sym, ap, ◌∙◌, subst, inl, inr, append_assoc, length-append, length-drop, take_at, arith}
+use Rattle.std.proofs.Common.{◌≡◌, ℕ, zero, suc, ◌+◌, ◌-◌, ◌<◌, ◌≤◌, Bool, true, false, true≢false, ◌&&◌, ◌==◌, nat_le, List, [], ◌∷◌, ◌++◌, map, reverse, length, take, drop, sum_by, refl, sym, ap, ◌∙◌, subst, inl, inr, append_assoc, length-append, length-drop, take_at, arith}
 use Rattle.std.specs.List.{AllByRecursion}
 use Rattle.std.proofs.lemmas.Bool.{and_from, and_parts, both_ways, cases_Bool, eq-eqb, le-leb, leb-true}
 use Rattle.std.proofs.lemmas.List.{drop-append-le, length_push}
@@ -8,7 +8,7 @@ use Rattle.theory.proofs.Trains.{demand_is_greatest}
 use Rattle.runs.specs.Job.{AllFit, asked, Job, pattern_on, Sound}
 use Rattle.runs.specs.State.{finished, is_late, is_pending, late, left_of, OpenTask, pending, Phase, Slot, State, tasks_of}
 use Rattle.runs.specs.Events.{arrive, arrive_at, Event, free_at, overdue, play, run, start, step, tick}
-use Rattle.runs.specs.Runs.{masks, OnTime, Supplied}
+use Rattle.runs.specs.Runs.{masks, OnTime, served_ticks, Supplied}
 use Rattle.runs.specs.Theorems.{NeverLate}
 use Rattle.runs.proofs.Lists.{all_both, all_from_mem, all_mem, all_weaker}
 use Rattle.runs.proofs.Sums.{sum_le, sum_map, sum_none, sum_shift}
@@ -63,7 +63,7 @@ module _ (engines : ℕ) (supply : ℕ → ℕ → ℕ) (jobs : List Job) (fits 
       let c = served e x n known (omega (arith, length-append past rest)) in
       let cut : take n (drop x (past ++ rest)) ≡ drop x past
       = ap (take n) (drop-append-le x past rest (omega arith)) ∙ take_at (drop x past) rest n (length-drop x past ∙ ap (λ k. k - x) clock_is) in
-      let f = ap (count_by (λ (m : ℕ → Bool). m e)) cut in
+      let f = ap (served_ticks e) cut in
       omega arith
 
   timely_from : (t : ℕ) (p : OpenTask) → Alive p → owed p.task.engine t p ≡ 0 → Timely t p

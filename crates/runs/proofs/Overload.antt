@@ -1,15 +1,16 @@
 -- Without reports of done, more asked from x to now than was served since x: something is late, whichever engine served what.
-use Rattle.std.proofs.Common.{◌≡◌, ℕ, ◌+◌, ◌<◌, ◌≤◌, Bool, true, false, ◌&&◌, ◌==◌, nat_le, Option, List, [], ◌∷◌, ◌++◌, length, drop, sum_by, count_by, refl, sym, subst, inl, inr, append_assoc, append-nil, arith}
+use Rattle.std.proofs.Common.{◌≡◌, ℕ, ◌+◌, ◌<◌, ◌≤◌, Bool, true, false, ◌==◌, nat_le, Option, List, [], ◌∷◌, ◌++◌, length, drop, sum_by, refl, sym, subst, inl, inr, append_assoc, append-nil, arith}
 use Rattle.std.specs.List.{AllByRecursion}
 use Rattle.std.proofs.lemmas.Bool.{and_right, cases_lt, lt-leb}
 use Rattle.std.proofs.lemmas.List.{length_push}
 use Rattle.runs.specs.Job.{Apart, Distinct, Job, Sound}
 use Rattle.runs.specs.State.{each, OpenTask, Slot, State, tasks_of}
-use Rattle.runs.specs.Next.{Key, next}
-use Rattle.runs.specs.Events.{advance, arrive, arrive_at, Event, overdue, play, run, start, step, tick}
-use Rattle.runs.specs.Runs.{masks, Quiet}
+use Rattle.runs.specs.Next.{Key}
+use Rattle.runs.specs.Events.{advance, arrive, arrive_at, choices, Event, overdue, play, run, start, step, tick}
+use Rattle.runs.specs.Runs.{masks, Quiet, served_ticks}
 use Rattle.runs.proofs.Lists.{all_both, all_map, all_weaker}
 use Rattle.runs.proofs.Sums.{bit, sum_flat, sum_none, sum_shift, sum_zero}
+use Rattle.runs.proofs.Tasks.{lies}
 use Rattle.runs.proofs.Slots.{asks, Good, Timely, expire_same}
 use Rattle.runs.proofs.Kept.{fresh, Kept, kept_arrive, kept_run, kept_start, none_at_start, timely_each}
 use Rattle.runs.proofs.Keys.{apart_map, arrive_keyed, each_keyed, Keyed}
@@ -38,6 +39,7 @@ books_arrive engines jobs past st j b i =
       };
     }
 
+-- what was late once stays counted
 lates_grow : (st : State) (es : List Event) → st.lates ≤ (play st es).lates
 lates_grow st [] = omega arith
 lates_grow st (arrive j b ∷ es) = lates_grow (step st (arrive j b)) es
@@ -49,7 +51,7 @@ module _ (engines : ℕ) (jobs : List Job) (distinct : Distinct jobs) where
   books_tick past st on done silent none i =
       let t = st.clock in
       let slots = run t on done st.slots in
-      let choice : ℕ → Option Key = λ e. next e t (tasks_of st.slots) in
+      let choice : ℕ → Option Key = choices t st.slots in
       let keyed = all_map Keyed (each (advance choice on done)) st.slots (all_weaker Keyed (λ s. Keyed (each (advance choice on done) s)) (each_keyed choice on done) st.slots i.keyed) in
       let clock_is : length (past ++ (on ∷ [])) ≡ t + 1 = omega (arith, length_push past on, i.clock_is) in
       let apart = apart_map (λ (j : Job). j.number) (λ (s : Slot). s.job) st.slots (subst (Apart (λ j. j.number)) (sym i.kept.jobs_are) distinct.numbers) in
@@ -92,7 +94,7 @@ asked_so_far e x y st = sum_by (asks e x y) st.slots
 
 pub overload_is_late :
     (engines : ℕ) (jobs : List Job) (es : List Event) → AllByRecursion (Sound engines) jobs → Distinct jobs → AllByRecursion Quiet es
-    → (e x : ℕ) → count_by (λ m. m e) (drop x (masks es)) < asked_so_far e x (play (start jobs) es).clock (play (start jobs) es)
+    → (e x : ℕ) → served_ticks e (drop x (masks es)) < asked_so_far e x (play (start jobs) es).clock (play (start jobs) es)
     → 1 ≤ (play (start jobs) es).lates
 overload_is_late engines jobs es sound distinct quiet e x over = elim (cases_lt 0 ((play (start jobs) es).lates)) [
   | inl l ↦ l
@@ -107,6 +109,6 @@ overload_is_late engines jobs es sound distinct quiet e x over = elim (cases_lt 
     by_now e x t p h = elim (cases_lt t p.task.due) [
       | inr l ↦ nothing_held e x t t p h l
       | inl l ↦ let z : nat_le p.task.due t ≡ false = lt-leb _ _ l in
-          let i : ((p.task.engine == e) && (nat_le x p.task.release && nat_le p.task.due t)) ≡ false = and_right (p.task.engine == e) _ (and_right (nat_le x p.task.release) _ z) in
+          let i : lies e x t p ≡ false = and_right (p.task.engine == e) _ (and_right (nat_le x p.task.release) _ z) in
           rw i refl
     ]

@@ -1,14 +1,13 @@
 -- The run in which arrivals come as they are listed, and engines are served as little as they may be.
-use Rattle.std.proofs.Common.{◌≡◌, ℕ, zero, suc, ◌+◌, ◌<◌, ◌≤◌, Bool, false, cond, Option, Some, None, List, [], ◌∷◌, ◌++◌, map, flat_map, length, take, drop, count_by, refl, sym, ap, ◌∙◌, subst, inl, inr, take_all, add-one, arith}
+use Rattle.std.proofs.Common.{◌≡◌, ℕ, zero, suc, ◌+◌, ◌<◌, ◌≤◌, Bool, false, cond, Option, Some, None, List, [], ◌∷◌, ◌++◌, map, flat_map, length, take, drop, refl, sym, ap, ◌∙◌, subst, inl, inr, take_all, add-one, arith}
 use Rattle.std.specs.List.{AllByRecursion}
 use Rattle.std.proofs.lemmas.Bool.{cases_eq}
 use Rattle.std.proofs.lemmas.List.{drop-append-le, drop-take, drop_all, length_push, take-append-le}
 use Rattle.std.proofs.lemmas.List.Sums.{sum_by-append}
 use Rattle.runs.specs.Job.{Apart, Job}
-use Rattle.runs.specs.State.{each, State, tasks_of}
-use Rattle.runs.specs.Next.{next}
-use Rattle.runs.specs.Events.{advance, arrive, Event, expired, play, run, start, step, tick}
-use Rattle.runs.specs.Runs.{AllGranted, Lawful, masks, Quiet, Supplied}
+use Rattle.runs.specs.State.{each, State}
+use Rattle.runs.specs.Events.{advance, arrive, choices, Event, expired, play, run, start, step, tick}
+use Rattle.runs.specs.Runs.{AllGranted, Lawful, masks, Quiet, served_ticks, Supplied}
 use Rattle.runs.proofs.Lists.{all_append, all_from_mem, all_mem, map_again, map_on, Mem, mem_map}
 use Rattle.runs.proofs.Trains.{came, coming, cut, Fair, Train, upto_none}
 use Rattle.runs.proofs.Calls.{after, after_own, calls, calls_end, calls_granted, calls_of}
@@ -71,15 +70,15 @@ module _ (supply : ℕ → ℕ → ℕ) (x : ℕ) (ps : List Train) where
     | inr ne ↦ ap (take k) (story_masks y) ∙ (take-append-le k (masks (story supply x ps y)) (mask supply x y ∷ []) (omega (arith, story_length y)) ∙ story_take y k (omega arith))
   ]
 
-  pub story_served : (e : ℕ) → Lawful (supply e) → (a k : ℕ) → a ≤ k → count_by (λ m. m e) (drop a (masks (story supply x ps k))) + level (supply e) x a ≡ level (supply e) x k
+  pub story_served : (e : ℕ) → Lawful (supply e) → (a k : ℕ) → a ≤ k → served_ticks e (drop a (masks (story supply x ps k))) + level (supply e) x a ≡ level (supply e) x k
   story_served e ok a zero l = let z : a ≡ 0 = omega arith in rw z (omega arith)
   story_served e ok a (suc k) l = elim (cases_eq a (suc k)) [
     | inl q ↦
-        let none = ap (count_by (λ (m : ℕ → Bool). m e)) (drop_all a (masks (story supply x ps (suc k))) (omega (arith, story_length (suc k)))) in
+        let none = ap (served_ticks e) (drop_all a (masks (story supply x ps (suc k))) (omega (arith, story_length (suc k)))) in
         omega (arith, ap (level (supply e) x) q)
     | inr ne ↦
-        let cut_it = ap (λ ms. count_by (λ (m : ℕ → Bool). m e) (drop a ms)) (story_masks k)
-        ∙ (ap (count_by (λ (m : ℕ → Bool). m e)) (drop-append-le a (masks (story supply x ps k)) (mask supply x k ∷ []) (omega (arith, story_length k)))
+        let cut_it = ap (λ ms. served_ticks e (drop a ms)) (story_masks k)
+        ∙ (ap (served_ticks e) (drop-append-le a (masks (story supply x ps k)) (mask supply x k ∷ []) (omega (arith, story_length k)))
         ∙ sum_by-append (λ (m : ℕ → Bool). cond (m e) 1 0) (drop a (masks (story supply x ps k))) (mask supply x k ∷ [])) in
         let rec = story_served e ok a k (omega arith) in
         let more = level_more (supply e) ok x k in
@@ -89,7 +88,7 @@ module _ (supply : ℕ → ℕ → ℕ) (x : ℕ) (ps : List Train) where
   pub story_supplied : (engines : ℕ) → ((e : ℕ) → e < engines → Lawful (supply e)) → (y : ℕ) → Supplied engines supply (masks (story supply x ps y))
   story_supplied engines laws y e a n known l =
       let inside : a + n ≤ y = omega (arith, story_length y) in
-      let f = ap (count_by (λ (m : ℕ → Bool). m e)) (sym (drop-take a n (masks (story supply x ps y))) ∙ ap (drop a) (story_take y (a + n) inside)) in
+      let f = ap (served_ticks e) (sym (drop-take a n (masks (story supply x ps y))) ∙ ap (drop a) (story_take y (a + n) inside)) in
       omega (arith, story_served e (laws e known) a (a + n) (omega arith), level_supply (supply e) (laws e known) x a n)
 
   pub story_silent : (t : ℕ) → AllByRecursion Quiet (story supply x ps t)
@@ -106,7 +105,7 @@ tick_trains : (st : State) (on done : ℕ → Bool) → map came (step st (tick 
 tick_trains st on done =
     let t = st.clock in
     map_again came (each (expired (t + 1))) (λ _. refl) (run t on done st.slots)
-    ∙ map_again came (each (advance (λ e. next e t (tasks_of st.slots)) on done)) (λ _. refl) st.slots
+    ∙ map_again came (each (advance (choices t st.slots) on done)) (λ _. refl) st.slots
 
 pub record At (jobs : List Job) (ps : List Train) (t : ℕ) (es : List Event) : Type 0 where
   pub clock_is : (play (start jobs) es).clock ≡ t

@@ -8,13 +8,17 @@ use Rattle.runs.specs.State.{finished, is_late, is_pending, late, left_of, OpenT
 use Rattle.runs.specs.Next.{Key, key_of, ready}
 use Rattle.runs.specs.Events.{advance, opened, same, serve, worked}
 
+-- whether an open sub-task is on the engine e and its window lies between x and y
+abbrev pub lies : (e x y : ℕ) → OpenTask → Bool
+lies e x y p = (p.task.engine == e) && (nat_le x p.task.release && nat_le p.task.due y)
+
 -- the ticks left of an open sub-task on the engine e that is due up to d
 abbrev pub owed : (e d : ℕ) → OpenTask → ℕ
 owed e d p = cond ((p.task.engine == e) && nat_le p.task.due d) (left_of p.phase) 0
 
--- the ticks of an open sub-task on the engine e whose window lies in [x, y]
+-- the ticks of an open sub-task on the engine e whose window lies between x and y
 abbrev pub wanted : (e x y : ℕ) → OpenTask → ℕ
-wanted e x y p = cond ((p.task.engine == e) && (nat_le x p.task.release && nat_le p.task.due y)) p.task.ticks 0
+wanted e x y p = cond (lies e x y p) p.task.ticks 0
 
 -- a phase of a sub_task of c ticks that is not late
 pub record Live (c : ℕ) (f : Phase) : Type 0 where

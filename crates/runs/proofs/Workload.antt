@@ -1,12 +1,13 @@
 -- The workload invariant, through a tick.
-use Rattle.std.proofs.Common.{◌≡◌, ℕ, ◌+◌, ◌≤◌, Bool, true, false, cond, ◌&&◌, ◌==◌, nat_le, Option, Some, None, List, [], ◌∷◌, ◌++◌, length, drop, sum_by, count_by, refl, ap, ◌∙◌, inl, inr, arith}
+use Rattle.std.proofs.Common.{◌≡◌, ℕ, ◌+◌, ◌≤◌, Bool, true, false, cond, ◌&&◌, ◌==◌, nat_le, Option, Some, None, List, [], ◌∷◌, ◌++◌, length, drop, sum_by, refl, ap, ◌∙◌, inl, inr, arith}
 use Rattle.std.specs.List.{AllByRecursion}
 use Rattle.std.proofs.lemmas.Bool.{and_parts, both_ways, cases_Bool, eqb-true, leb-true}
 use Rattle.std.proofs.lemmas.List.{drop-append-le, drop_all, length_push}
 use Rattle.std.proofs.lemmas.List.Sums.{sum_by-append}
 use Rattle.runs.specs.State.{each, is_pending, OpenTask, Slot, tasks_of}
 use Rattle.runs.specs.Next.{Key, key_of, next, NotAfter, ready}
-use Rattle.runs.specs.Events.{advance, run}
+use Rattle.runs.specs.Events.{advance, choices, run}
+use Rattle.runs.specs.Runs.{served_ticks}
 use Rattle.runs.proofs.Lists.{all_both, all_mem, Mem, pick}
 use Rattle.runs.proofs.Sums.{sum_flat, sum_le, sum_le_each, sum_lt, sum_map}
 use Rattle.runs.proofs.Tasks.{advance_le, advance_lt, idle_le, owed, same_self, wanted}
@@ -15,23 +16,23 @@ use Rattle.runs.proofs.Slots.{Alive, all_alive, asks, Good, owes, owes_flat, tas
 
 -- for every engine and every d there is a time x from which on the work asked for covers the work owed and the ticks served
 pub record Workload (past : List (ℕ → Bool)) (t : ℕ) (slots : List Slot) : Type 0 where
-  pub since : (e d : ℕ) → (x : ℕ) × (x ≤ t) × (sum_by (owes e d) slots + count_by (λ m. m e) (drop x past) ≤ sum_by (asks e x d) slots)
+  pub since : (e d : ℕ) → (x : ℕ) × (x ≤ t) × (sum_by (owes e d) slots + served_ticks e (drop x past) ≤ sum_by (asks e x d) slots)
 
 module _ (engines t : ℕ) (past : List (ℕ → Bool)) (clock_is : length past ≡ t) (slots : List Slot) (good : AllByRecursion (Good engines) slots)
     (work : Workload past t slots) (on done : ℕ → Bool) where
   -- the choice of each engine, and what it does
-  owes_after : (e d : ℕ) → sum_by (owes e d) (run t on done slots) ≡ sum_by (λ p. owed e d (advance (λ k. next k t (tasks_of slots)) on done p)) (tasks_of slots)
+  owes_after : (e d : ℕ) → sum_by (owes e d) (run t on done slots) ≡ sum_by (λ p. owed e d (advance (choices t slots) on done p)) (tasks_of slots)
   owes_after e d =
-      let adv = advance (λ k. next k t (tasks_of slots)) on done in
+      let adv = advance (choices t slots) on done in
       owes_flat e d (run t on done slots) ∙ (ap (sum_by (owed e d)) (tasks_each adv slots) ∙ sum_map (owed e d) adv (tasks_of slots))
 
   asks_after : (e x d : ℕ) → sum_by (asks e x d) (run t on done slots) ≡ sum_by (asks e x d) slots
-  asks_after e x d = sum_map (asks e x d) (each (advance (λ k. next k t (tasks_of slots)) on done)) slots
+  asks_after e x d = sum_map (asks e x d) (each (advance (choices t slots) on done)) slots
 
   owes_less : (e d : ℕ) → sum_by (owes e d) (run t on done slots) ≤ sum_by (owes e d) slots
   owes_less e d =
       let flat = tasks_of slots in
-      let a = sum_le_each (λ p. owed e d (advance (λ k. next k t (tasks_of slots)) on done p)) (owed e d) (advance_le e d (λ k. next k t (tasks_of slots)) on done) flat in
+      let a = sum_le_each (λ p. owed e d (advance (choices t slots) on done p)) (owed e d) (advance_le e d (choices t slots) on done) flat in
       omega (arith, owes_after e d, owes_flat e d slots)
 
   -- nothing with a due up to d is ready: what is owed by then is asked for from the next tick on
@@ -57,20 +58,20 @@ module _ (engines t : ℕ) (past : List (ℕ → Bool)) (clock_is : length past 
           let (pend, rest) = and_parts (is_pending n.chosen.phase) _ n.is_ready in
           let (here, _) = and_parts (n.chosen.task.engine == e) _ rest in
           let some = (all_mem Alive (tasks_of slots) n.chosen n.here (all_alive engines slots good)).some_left pend in
-          let a = sum_lt (λ p. owed e d (advance (λ k. next k t (tasks_of slots)) on done p)) (owed e d)
-          (advance_le e d (λ k. next k t (tasks_of slots)) on done) (tasks_of slots) n.chosen n.here
-          (advance_lt e d (λ k. next k t (tasks_of slots)) on done n.chosen c (eqb-true _ _ here) q (same_self n.chosen.task c n.is_key) served some (omega (arith, ap (λ v. v.due) n.is_key))) in
+          let a = sum_lt (λ p. owed e d (advance (choices t slots) on done p)) (owed e d)
+          (advance_le e d (choices t slots) on done) (tasks_of slots) n.chosen n.here
+          (advance_lt e d (choices t slots) on done n.chosen c (eqb-true _ _ here) q (same_self n.chosen.task c n.is_key) served some (omega (arith, ap (λ v. v.due) n.is_key))) in
           omega (arith, owes_after e d, owes_flat e d slots)
 
   pub workload_after : Workload (past ++ (on ∷ [])) (t + 1) (run t on done slots)
   workload_after = record {
     since = λ e d. elim (pick (λ p. ready e t p && nat_le p.task.due d) (tasks_of slots)) [
       | inr quiet ↦
-          let no_ticks = ap (count_by (λ (m : ℕ → Bool). m e)) (drop_all (t + 1) (past ++ (on ∷ [])) (omega (arith, length_push past on))) in
+          let no_ticks = ap (served_ticks e) (drop_all (t + 1) (past ++ (on ∷ [])) (omega (arith, length_push past on))) in
           (t + 1, omega arith, omega (arith, owes_less e d, rests e d quiet, asks_after e (t + 1) d))
       | inl f ↦
           let (x, l, h) = work.since e d in
-          let more = ap (count_by (λ (m : ℕ → Bool). m e)) (drop-append-le x past (on ∷ []) (omega arith)) ∙ sum_by-append (λ (m : ℕ → Bool). cond (m e) 1 0) (drop x past) (on ∷ []) in (
+          let more = ap (served_ticks e) (drop-append-le x past (on ∷ []) (omega arith)) ∙ sum_by-append (λ (m : ℕ → Bool). cond (m e) 1 0) (drop x past) (on ∷ []) in (
             x,
             omega arith,
             elim (cases_Bool (on e)) [

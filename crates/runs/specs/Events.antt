@@ -9,6 +9,7 @@
 --   same k t                 whether k is the key of the sub-task t
 --   serve o served done p    the phase of p after a tick, if its engine runs o, is served, and reports
 --   advance next served done p    p after a tick, whatever engine it is on
+--   choices t slots e        what the engine e runs next
 --   run t served done slots  every engine works on the first of its sub-tasks that are ready at t
 --   overdue t p              whether p is pending and due by t
 --   expired t p              then it is late
@@ -63,8 +64,11 @@ serve (Some k) served done p = cond (served && same k p.task) (worked done p.pha
 abbrev pub advance : (ℕ → Option Key) → (ℕ → Bool) → (ℕ → Bool) → OpenTask → OpenTask
 advance choice served done p = in_phase p (serve (choice p.task.engine) (served p.task.engine) (done p.task.engine) p)
 
+abbrev pub choices : ℕ → List Slot → ℕ → Option Key
+choices t slots e = next e t (tasks_of slots)
+
 abbrev pub run : ℕ → (ℕ → Bool) → (ℕ → Bool) → List Slot → List Slot
-run t served done slots = map (each (advance (λ e. next e t (tasks_of slots)) served done)) slots
+run t served done slots = map (each (advance (choices t slots) served done)) slots
 
 abbrev pub overdue : ℕ → OpenTask → Bool
 overdue t p = is_pending p.phase && nat_le p.task.due t

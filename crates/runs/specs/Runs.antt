@@ -1,5 +1,6 @@
 -- Runs of a board, and when everything in one is on time.
 --   masks events                   the served masks of the ticks, in order
+--   served_ticks e ms              in how many of the ticks the engine e is served
 --   Supplied engines supply ms     in every n ticks in a row each engine is served at least its supply
 --   Granted st event               an arrival is granted by a slot
 --   AllGranted st events           each arrival is, where it comes
@@ -19,8 +20,11 @@ masks [] = []
 masks (arrive j b ∷ es) = masks es
 masks (tick served done ∷ es) = served ∷ masks es
 
+abbrev pub served_ticks : ℕ → List (ℕ → Bool) → ℕ
+served_ticks e ms = count_by (λ m. m e) ms
+
 abbrev pub Supplied : ℕ → (ℕ → ℕ → ℕ) → List (ℕ → Bool) → Type 0
-Supplied engines supply ms = (e x n : ℕ) → e < engines → x + n ≤ length ms → supply e n ≤ count_by (λ m. m e) (take n (drop x ms))
+Supplied engines supply ms = (e x n : ℕ) → e < engines → x + n ≤ length ms → supply e n ≤ served_ticks e (take n (drop x ms))
 
 abbrev pub Granted : State → Event → Type 0
 Granted st (arrive j b) = list_any (granted st.clock j b) st.slots ≡ true
