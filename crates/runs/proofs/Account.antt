@@ -44,9 +44,11 @@ nothing_held e x y t p h l = go p.phase refl
     go late q = ap (λ f. cond inside (left_of f) 0) q ∙ zero_both inside
 
 -- an arrival asks for what it opens, and drops nothing that is pending
+abbrev pub Covers : (e x y t j b : ℕ) → Slot → Type 0
+Covers e x y t j b s = asks e x y (arrive_at t j b s) + holds e x y s ≤ asks e x y s + holds e x y (arrive_at t j b s)
+
 module _ (engines t j b : ℕ) where
-  pub arrive_account : (e x y : ℕ) (s : Slot) → Good engines s → AllByRecursion (Timely t) s.tasks
-      → asks e x y (arrive_at t j b s) + holds e x y s ≤ asks e x y s + holds e x y (arrive_at t j b s)
+  pub arrive_account : (e x y : ℕ) (s : Slot) → Good engines s → AllByRecursion (Timely t) s.tasks → Covers e x y t j b s
   arrive_account e x y s g h = cond_both (granted t j b s) (arrived t b s) s (λ r. asks e x y r + holds e x y s ≤ asks e x y s + holds e x y r)
       (λ is.
       let (known, free) = granted_parts engines t j b s is in

@@ -14,7 +14,7 @@ use Rattle.runs.proofs.Tasks.{lies}
 use Rattle.runs.proofs.Slots.{asks, Good, Timely, expire_same}
 use Rattle.runs.proofs.Kept.{fresh, Kept, kept_arrive, kept_run, kept_start, none_at_start, timely_each}
 use Rattle.runs.proofs.Keys.{apart_map, arrive_keyed, each_keyed, Keyed}
-use Rattle.runs.proofs.Account.{Account, account_after, arrive_account, held, holds, nothing_held}
+use Rattle.runs.proofs.Account.{Account, account_after, arrive_account, Covers, held, holds, nothing_held}
 
 -- what holds while nothing was late, with the served masks so far
 record Books (engines : ℕ) (jobs : List Job) (past : List (ℕ → Bool)) (st : State) : Type 0 where
@@ -33,8 +33,8 @@ books_arrive engines jobs past st j b i =
       keyed = all_map Keyed (arrive_at t j b) slots (all_weaker Keyed (λ s. Keyed (arrive_at t j b s)) (arrive_keyed engines t j b) slots i.keyed);
       account = record {
         balanced = λ e x y.
-            let k = sum_shift (λ s. asks e x y (arrive_at t j b s) + holds e x y s ≤ asks e x y s + holds e x y (arrive_at t j b s)) (asks e x y) (holds e x y) (arrive_at t j b) (λ s h. h) slots
-            (all_both (Good engines) (λ s. AllByRecursion (Timely t) s.tasks) (λ s. asks e x y (arrive_at t j b s) + holds e x y s ≤ asks e x y s + holds e x y (arrive_at t j b s)) (arrive_account engines t j b e x y) slots i.kept.good (timely_each engines jobs t slots i.kept)) in
+            let each_one = all_both (Good engines) (λ s. AllByRecursion (Timely t) s.tasks) (Covers e x y t j b) (arrive_account engines t j b e x y) slots i.kept.good (timely_each engines jobs t slots i.kept) in
+            let k = sum_shift (Covers e x y t j b) (asks e x y) (holds e x y) (arrive_at t j b) (λ s h. h) slots each_one in
             omega (arith, i.account.balanced e x y);
       };
     }
