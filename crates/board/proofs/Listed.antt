@@ -62,10 +62,10 @@ pub listed_low : (tags : List ℕ) (g : ℕ) (xs : List ℕ) → Rostered tags �
 listed_low tags g xs rostered each k e at = elim (cases_lt e 16) [
   | inl low ↦ low
   | inr high ↦ absurd (omega (
-      arith,
-      each.never e (λ tag. none-some g (sym (slice_get_past tags e (omega (arith, rostered.few))) ∙ tag)),
-      times_at e xs k at,
-    ))
+    arith,
+    each.never e (λ tag. none-some g (sym (slice_get_past tags e (omega (arith, rostered.few))) ∙ tag)),
+    times_at e xs k at,
+  ))
 ]
 
 pub few_listed : (tags : List ℕ) (g : ℕ) (xs : List ℕ) → Rostered tags → EachOnce tags g xs → length xs ≤ 16

@@ -1,4 +1,4 @@
-use Rattle.std.proofs.Common.{rules, ◌≡◌, ℕ, Bool, cond, false, [], ◌∷◌, ◌++◌, map, length, sym, ap, subst, ◌∙◌, arith}
+use Rattle.std.proofs.Common.{rules, ◌≡◌, ℕ, Bool, cond, false, min, slice_index, [], ◌∷◌, ◌++◌, map, length, sym, ap, subst, ◌∙◌, arith}
 use Rattle.std.specs.Prelude.{slice_get, is_some}
 use Rattle.std.specs.List.{All}
 use Rattle.std.proofs.lemmas.List.{map-append}
@@ -20,6 +20,20 @@ use Rattle.board.proofs.board.Board.place.Goals as goal
 
 pub choices-preserved-in_default : goal.choices-preserved-in_default
 choices-preserved-in_default g c = next_below _ c.choices.choice c.choices.invariant (λ possible. absurd (c.in_default.ensures possible))
+
+pub choices-preserved-then-is_stuck : goal.choices-preserved-then-is_stuck
+choices-preserved-then-is_stuck g c =
+    let me = c.args.self.now in
+    let rs = jobs me.residents in
+    let plan = c.in-Some.plan in
+    let stuck = c.is_stuck.ensures.0 c.if-is_stuck.true in
+    next_below _ c.choices.choice c.choices.invariant (λ possible. record {
+      plan = plan;
+      planned = c.in-Some.ensures.1;
+      tag = stuck.tag;
+      has = stuck.has;
+      nowhere = λ e is fits. let n = min (slice_index c.choices.short e) 28800 in omega (arith, stuck.short e is, fits n);
+    })
 
 pub tags-preserved-in_default-of : goal.tags-preserved-in_default-of
 tags-preserved-in_default-of g c =
