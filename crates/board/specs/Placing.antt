@@ -1,6 +1,8 @@
 -- Placing a job on the engines of a board, beside its residents.
 --   Rules                          what the placing goes by: the tags of the engines, their supply, the slack rule, and the order of engines after tellings
 --   FitsOn supply rs e p           on the engine e, what asks by the pattern p fits beside the residents rs
+--   ShortOn supply rs e p n        in n ticks the engine e serves too little for what asks by the pattern p beside the residents rs
+--   KnownStuck rules rs p known    some part of the plan p asks too much of each engine e of its tag, in known e ticks
 --   tried rules rs g               the engines of the tag g, in the order in which they are tried
 --   FirstFit rules rs p es e       e is the first of the engines es on which p fits
 --   Sits rules rs p s              the seat s of the plan p is on the first engine on which its part fits
@@ -26,6 +28,7 @@ use Rattle.task.specs.declared.job.Job.{Job}
 use Rattle.task.specs.declared.node.Numbering.TheVariants.{Choice}
 use Rattle.task.specs.Flaws.{graph}
 use Rattle.task.specs.Picks.{numbers}
+use Rattle.theory.specs.Demand.{demand_of_all}
 use Rattle.theory.specs.Pattern.{Pattern}
 use Rattle.window.specs.Path.{Possible}
 
@@ -37,6 +40,15 @@ pub record Rules : Type 0 where
 
 abbrev pub FitsOn : (ℕ → ℕ → ℕ) → List Resident → ℕ → Pattern → Type 0
 FitsOn supply rs e p = Fits (supply e) (p ∷ asked_on rs e)
+
+abbrev pub ShortOn : (ℕ → ℕ → ℕ) → List Resident → ℕ → Pattern → ℕ → Type 0
+ShortOn supply rs e p n = supply e n < demand_of_all (p ∷ asked_on rs e) n
+
+pub record KnownStuck (rules : Rules) (rs : List Resident) (p : Plan) (known : ℕ → ℕ) : Type 0 where
+  pub tag : ℕ
+  pub low : tag < 8
+  pub has : has_part p tag ≡ true
+  pub short : (e : ℕ) → tag_of rules.tags e ≡ Some tag → ShortOn rules.supply rs e (part_pattern p tag) (known e)
 
 abbrev pub tried : Rules → List Resident → ℕ → List ℕ
 tried rules rs g = rules.listing [] rules.tags g (loads rs)
