@@ -1,5 +1,5 @@
 -- A list that has each engine of a tag once: each stands at some place, and there are at most 16.
-use Rattle.std.proofs.Common.{◌≡◌, ℕ, zero, suc, ◌+◌, ◌≤◌, Bool, true, false, cond, eqb, List, [], ◌∷◌, length, Option, Some, None, refl, sym, ap, ◌∙◌, arith, inl, inr, ◌⊎◌, ◌||◌}
+use Rattle.std.proofs.Common.{◌≡◌, ℕ, zero, suc, ◌+◌, ◌<◌, ◌≤◌, Bool, true, false, cond, eqb, List, [], ◌∷◌, length, Option, Some, None, refl, sym, ap, ◌∙◌, arith, inl, inr, ◌⊎◌, ◌||◌}
 use Rattle.std.specs.Prelude.{slice_get}
 use Rattle.std.specs.List.{AllByRecursion, IsDistinct, list_any}
 use Rattle.std.proofs.lemmas.Bool.{cases_Bool, cases_eq, cases_lt, eqb-true, eq-eqb}
@@ -57,6 +57,22 @@ found q (x ∷ xs) is = elim (cases_Bool (eqb x q)) [
       let more : list_any (eqb q) xs ≡ true = sym (ap (λ (c : Bool). c || list_any (eqb q) xs) (other x q no')) ∙ is in
       let rec = found q xs more in
       omega (arith, times_here x q xs false no')
+]
+
+times_at : (e : ℕ) (xs : List ℕ) (k : ℕ) → slice_get xs k ≡ Some e → 1 ≤ times e xs
+times_at e [] k at = absurd (none-some e (sym (slice_get_past [] k (omega arith)) ∙ at))
+times_at e (x ∷ xs) zero at = omega (arith, times_here x e xs true (eq-eqb x e (same_Some x e at)))
+times_at e (x ∷ xs) (suc k) at = omega (arith, times_here x e xs (eqb x e) refl, times_at e xs k at)
+
+-- what stands in it is the number of an engine
+pub listed_low : (tags : List ℕ) (g : ℕ) (xs : List ℕ) → Rostered tags → EachOnce tags g xs → (k e : ℕ) → slice_get xs k ≡ Some e → e < 16
+listed_low tags g xs rostered each k e at = elim (cases_lt e 16) [
+  | inl low ↦ low
+  | inr high ↦ absurd (omega (
+      arith,
+      each.never e (λ tag. none-some g (sym (slice_get_past tags e (omega (arith, rostered.few))) ∙ tag)),
+      times_at e xs k at,
+    ))
 ]
 
 pub few_listed : (tags : List ℕ) (g : ℕ) (xs : List ℕ) → Rostered tags → EachOnce tags g xs → length xs ≤ 16

@@ -1,8 +1,9 @@
 //! Placing a job on the engines of a board.
-ghost use Rattle.std.specs.Prelude.{◌≡◌, ℕ, ◌<◌, ◌≤◌, ◌↔◌, IsTrue, MatchOption};
+ghost use Rattle.std.specs.Prelude.{◌≡◌, ℕ, ◌<◌, ◌≤◌, ◌↔◌, ◌∷◌, IfSome, IsNone, MatchOption};
+ghost use Rattle.board.specs.Asked.{claims_on};
 ghost use Rattle.board.specs.Placing.{CannotBePlaced, FitsOn, Places};
 ghost use Rattle.board.specs.Residents.{jobs};
-ghost use Rattle.fit.specs.Fits.{in_cycle};
+ghost use Rattle.fit.specs.Fits.{Short, in_cycle};
 ghost use Rattle.fit.specs.Stated.{States};
 ghost use Rattle.task.specs.declared.node.Numbering.TheVariants.{Choice};
 ghost use Rattle.task.specs.Flaws.{graph};
@@ -15,7 +16,7 @@ use claim::claim::{Claim, Cut};
 use engine::roster::ENGINES;
 use engine::supply::Supply;
 use few::few::Few;
-use fit::fits::fits;
+use fit::fits::shortage;
 use order::order::EngineOrder;
 use order::rota::TAGS;
 use plan::plan::Plan;
@@ -46,13 +47,14 @@ fn no_seat() -> Seat {
 }
 
 impl<P: Supply, R: SlackRule, O: EngineOrder> Board<P, R, O> {
-    /// Whether what the claim states fits on the engine beside the residents.
-    fn fits(&self, engine: usize, claim: &Claim) -> bool
-        ensures fits { (p : Pattern) → States p claim.now → IsTrue result ↔ FitsOn (P.Supply.supply self.now.platform) (jobs self.now.residents) engine p }
-        ensures paced { (p : Pattern) → States p claim.now → IsTrue result → in_cycle claim.now ≤ 14400 }
+    /// A number of ticks in which the engine serves too little for what the claim states beside the residents; nothing where it fits. `near` is tried first.
+    fn shortage(&self, engine: usize, claim: &Claim, near: u32) -> Option<u32>
+        ensures fits { (p : Pattern) → States p claim.now → IsNone result ↔ FitsOn (P.Supply.supply self.now.platform) (jobs self.now.residents) engine p }
+        ensures paced { (p : Pattern) → States p claim.now → IsNone result → in_cycle claim.now ≤ 14400 }
+        ensures short { IfSome result (λ n. (n ≤ 28800) × Short (P.Supply.supply self.now.platform engine) (claim.now ∷ claims_on (jobs self.now.residents) engine) n) }
     {
         let claims = claims_on(claim, self.residents.as_slice(), engine);
-        fits(&self.platform, engine, claims.as_slice())
+        shortage(&self.platform, engine, claims.as_slice(), near)
     }
 
     /// The job under its first possible choice that can be placed.
@@ -60,6 +62,8 @@ impl<P: Supply, R: SlackRule, O: EngineOrder> Board<P, R, O> {
         ensures { MatchOption result ((c : ℕ) → c < numbers Choice (graph job.now) → CannotBePlaced (record { tags = P.Roster.tags self.now.platform; supply = P.Supply.supply self.now.platform; local = R.SlackRule.local self.now.rule; listing = O.EngineOrder.listing self.now.order }) (jobs self.now.residents) job.now c) (Places (record { tags = P.Roster.tags self.now.platform; supply = P.Supply.supply self.now.platform; local = R.SlackRule.local self.now.rule; listing = O.EngineOrder.listing self.now.order }) (jobs self.now.residents) job.now) }
     {
         let loads = loads(&self.residents);
+        // The parts of a job's choices are much alike, so what one of them was short in is tried first with the next.
+        let mut short = [0; ENGINES];
         'choices: for choice in 0..job.choices() {
             let Some(plan) = Plan::of(job, choice, &self.rule) else {
                 continue;
@@ -73,10 +77,11 @@ impl<P: Supply, R: SlackRule, O: EngineOrder> Board<P, R, O> {
                     let Some(engine) = self.order.place(&self.platform, tag, &loads, place) else {
                         continue 'choices;
                     };
-                    if self.fits(engine, &claim) {
+                    let Some(ticks) = self.shortage(engine, &claim, short[engine]) else {
                         seats.push(Seat { tag, engine, claim }).unwrap();
                         continue 'tags;
-                    }
+                    };
+                    short[engine] = ticks;
                 }
                 continue 'choices;
             }

@@ -1,5 +1,6 @@
 -- The fit test of an engine, whose supply in n ticks is s n.
 --   given_of_all cs n    the most in n ticks, of all the claims cs
+--   Short s cs n         in n ticks the claims cs ask more than is served
 --   Fits s ps            in no number of ticks the patterns ps ask more than is served
 --   LeastFor s d m       m is the least number of ticks in which d are served
 --   in_cycle c           what the whole arrivals of a belt cycle ask, a period apart
@@ -12,6 +13,9 @@ use Rattle.theory.specs.Pattern.{Pattern}
 
 abbrev pub given_of_all : List Claim → ℕ → ℕ
 given_of_all cs n = sum_by (λ c. given c n) cs
+
+abbrev pub Short : (ℕ → ℕ) → List Claim → ℕ → Type 0
+Short s cs n = s n < given_of_all cs n
 
 abbrev pub Fits : (ℕ → ℕ) → List Pattern → Type 0
 Fits s ps = (n : ℕ) → demand_of_all ps n ≤ s n

@@ -1,13 +1,13 @@
 //! The fit test of an engine.
 ghost use Rattle.std.specs.Int.{IsGcd};
-ghost use Rattle.std.specs.Prelude.{◌≡◌, ◌-◌, ◌≤◌, ◌↔◌, IsTrue, List, map, SomeIff};
-ghost use Rattle.fit.specs.Fits.{Fits, LeastFor, Paced, given_of_all};
+ghost use Rattle.std.specs.Prelude.{◌≡◌, ◌-◌, ◌≤◌, ◌↔◌, IsNone, IsTrue, IfSome, List, map, min, SomeIff};
+ghost use Rattle.fit.specs.Fits.{Fits, LeastFor, Paced, Short, given_of_all};
 ghost use Rattle.fit.specs.Multiple.{LeastMultiple, Periodic};
 ghost use Rattle.fit.specs.Stated.{Stated};
 ghost use Rattle.theory.specs.Pattern.{Pattern};
 
 use claim::claim::Claim;
-use engine::supply::Supply;
+use engine::supply::{FARTHEST, Supply};
 
 /// A belt cycle, in ticks.
 const CYCLE: u32 = 14_400;
@@ -70,21 +70,34 @@ fn least_for<P: Supply>(platform: &P, engine: usize, ticks: u32, asked: u64) -> 
     low
 }
 
-/// Whether the engine serves what the claims ask, in every number of ticks.
-pub fn fits<P: Supply>(platform: &P, engine: usize, claims: &[&Claim]) -> bool
-    ensures fits { (ps : List Pattern) → Stated ps (map (λ c. c.now) claims.now) → IsTrue result ↔ Fits (P.Supply.supply platform.now engine) ps }
-    ensures paced { (ps : List Pattern) → Stated ps (map (λ c. c.now) claims.now) → IsTrue result → Paced (map (λ c. c.now) claims.now) }
+/// Whether the claims ask for more in so many ticks, or in twice a belt cycle if that is less, than the engine serves.
+pub fn is_short<P: Supply>(platform: &P, engine: usize, claims: &[&Claim], ticks: u32) -> bool
+    ensures { IsTrue result ↔ Short (P.Supply.supply platform.now engine) (map (λ c. c.now) claims.now) (min ticks 28800) }
 {
+    let ticks = ticks.min(FARTHEST);
+    let served = u64::from(platform.supply(engine, ticks));
+    spare(claims, ticks, served).is_none()
+}
+
+/// A number of ticks in which the claims ask for more than the engine serves; nothing where there is no such number. `near` is tried first.
+pub fn shortage<P: Supply>(platform: &P, engine: usize, claims: &[&Claim], near: u32) -> Option<u32>
+    ensures fits { (ps : List Pattern) → Stated ps (map (λ c. c.now) claims.now) → IsNone result ↔ Fits (P.Supply.supply platform.now engine) ps }
+    ensures paced { (ps : List Pattern) → Stated ps (map (λ c. c.now) claims.now) → IsNone result → Paced (map (λ c. c.now) claims.now) }
+    ensures short { IfSome result (λ n. (n ≤ 28800) × Short (P.Supply.supply platform.now engine) (map (λ c. c.now) claims.now) n) }
+{
+    if is_short(platform, engine, claims, near) {
+        return Some(near.min(FARTHEST));
+    }
     // Twice a common multiple of the periods settles every number of ticks, so the walk begins there.
     let farthest = 2 * common_multiple(claims);
     let mut ticks = farthest;
     while ticks > 0 {
         let served = u64::from(platform.supply(engine, ticks));
         let Some(spare) = spare(claims, ticks, served) else {
-            return false;
+            return Some(ticks);
         };
         // In fewer ticks no more is asked, so those in which as much is served need no look.
         ticks = least_for(platform, engine, ticks, served - spare).saturating_sub(1);
     }
-    true
+    None
 }

@@ -1,10 +1,10 @@
-use Rattle.std.proofs.Common.{rules, ◌≡◌, ℕ, [], ◌∷◌, ◌++◌, map, length, sym, ap, subst, ◌∙◌, arith}
-use Rattle.std.specs.Prelude.{slice_get}
+use Rattle.std.proofs.Common.{rules, ◌≡◌, ℕ, Bool, cond, false, [], ◌∷◌, ◌++◌, map, length, sym, ap, subst, ◌∙◌, arith}
+use Rattle.std.specs.Prelude.{slice_get, is_some}
 use Rattle.std.specs.List.{All}
 use Rattle.std.proofs.lemmas.List.{map-append}
 use Rattle.board.specs.Placing.{Rules, Sits, tried}
 use Rattle.board.specs.Asked.{loads}
-use Rattle.board.proofs.Listed.{few_listed}
+use Rattle.board.proofs.Listed.{few_listed, listed_low}
 use Rattle.board.proofs.Stating.{part_states}
 use Rattle.board.proofs.Steps.{all_push, all_tried, ends_here, next_below, none_next, seats_room, some_is, tag_put, tag_skip}
 use Rattle.board.specs.Residents.{jobs}
@@ -78,17 +78,18 @@ tags-preserved g c =
     let pushed : items c.push.new.self ≡ items c.loop-place.seats ++ seat ∷ [] = search rules in
     let put : items c.push.new.self ≡ was ++ seat ∷ [] = pushed ∙ ap (λ ss. ss ++ seat ∷ []) c.loop-place.invariant.0 in
     let has = some_is (part_of plan tag) c.in-Some-of.ensures.0 in
+    let none : is_some c.shortage.result ≡ false = ap is_some c.in_default-shortage.is in
     let there =
     ap (λ l. slice_get (ruled.listing [] ruled.tags tag l) c.loop-place.place) (sym c.loads-loads.ensures) ∙ sym c.place.ensures ∙ c.in-Some-place.is in (
       ap (map (λ (s : Seat). s.tag)) put ∙ map-append (λ (s : Seat). s.tag) was (seat ∷ []) ∙ ap (λ ts. ts ++ tag ∷ []) inv.0 ∙ sym (tag_put plan tag c.tags-test.true has),
       subst (All (Fair plan)) (sym put) (all_push (Fair plan) was seat inv.1 (record {
         claims = c.in-Some-of.ensures.1;
-        paced = c.fits.ensures.paced (part_pattern plan tag) states c.if-fits.true;
+        paced = c.shortage.ensures.paced (part_pattern plan tag) states none;
       })),
       subst (All (Sits ruled rs plan)) (sym put) (all_push (Sits ruled rs plan) was seat inv.2 (record {
         place = c.loop-place.place;
         there = there;
-        fits = (c.fits.ensures.fits (part_pattern plan tag) states).0 c.if-fits.true;
+        fits = (c.shortage.ensures.fits (part_pattern plan tag) states).0 none;
         none_before = c.loop-place.invariant.1;
       })),
     )
@@ -110,8 +111,9 @@ loop-place-preserved g c =
     ap (λ l. slice_get (ruled.listing [] ruled.tags tag l) c.loop-place.place) (sym c.loads-loads.ensures) ∙ sym c.place.ensures ∙ c.in-Some-place.is in (
       c.loop-place.invariant.0,
       none_next ruled rs (part_pattern plan tag) (tried ruled rs tag) c.loop-place.place c.loop-place.invariant.1 c.in-Some-place.engine here (λ fits.
-          let yes' = (c.fits.ensures.fits (part_pattern plan tag) states).1 fits in
-          absurd (let z : ◌≡◌ {A = ℕ} 0 1 = cc in omega arith)),
+          let none = (c.shortage.ensures.fits (part_pattern plan tag) states).1 fits in
+          let z : ◌≡◌ {A = ℕ} 1 0 = ap (λ (b : Bool). cond b 1 0) (sym (ap is_some c.in-Some-shortage.is) ∙ none) in
+          omega arith),
     )
 
 pub choices-preserved : goal.choices-preserved
@@ -150,3 +152,39 @@ returns-in-choices g c =
       };
       none_before = λ b low. c.choices.invariant b (omega (arith, is));
     }
+
+pub bounds-short-engine : goal.bounds-short-engine
+bounds-short-engine g c =
+    let me = c.args.self.now in
+    let tags = g.P.Roster.tags me.platform in
+    let loads = c.loads-loads.result in
+    let low =
+    listed_low tags c.tags.tag (g.O.EngineOrder.listing me.order [] tags c.tags.tag loads) (g.P.Roster.rostered me.platform) (g.O.EngineOrder.complete me.order [] tags c.tags.tag loads) c.loop-place.place c.in-Some-place.engine (sym c.place.ensures ∙ c.in-Some-place.is) in
+    low
+
+pub offset_bounds-short-engine : goal.offset_bounds-short-engine
+offset_bounds-short-engine g c =
+    let me = c.args.self.now in
+    let tags = g.P.Roster.tags me.platform in
+    let loads = c.loads-loads.result in
+    let low =
+    listed_low tags c.tags.tag (g.O.EngineOrder.listing me.order [] tags c.tags.tag loads) (g.P.Roster.rostered me.platform) (g.O.EngineOrder.complete me.order [] tags c.tags.tag loads) c.loop-place.place c.in-Some-place.engine (sym c.place.ensures ∙ c.in-Some-place.is) in
+    omega (arith, low)
+
+pub bounds-short-engine-in-loop-place : goal.bounds-short-engine-in-loop-place
+bounds-short-engine-in-loop-place g c =
+    let me = c.args.self.now in
+    let tags = g.P.Roster.tags me.platform in
+    let loads = c.loads-loads.result in
+    let low =
+    listed_low tags c.tags.tag (g.O.EngineOrder.listing me.order [] tags c.tags.tag loads) (g.P.Roster.rostered me.platform) (g.O.EngineOrder.complete me.order [] tags c.tags.tag loads) c.loop-place.place c.in-Some-place.engine (sym c.place.ensures ∙ c.in-Some-place.is) in
+    low
+
+pub offset_bounds-short-engine-in-loop-place : goal.offset_bounds-short-engine-in-loop-place
+offset_bounds-short-engine-in-loop-place g c =
+    let me = c.args.self.now in
+    let tags = g.P.Roster.tags me.platform in
+    let loads = c.loads-loads.result in
+    let low =
+    listed_low tags c.tags.tag (g.O.EngineOrder.listing me.order [] tags c.tags.tag loads) (g.P.Roster.rostered me.platform) (g.O.EngineOrder.complete me.order [] tags c.tags.tag loads) c.loop-place.place c.in-Some-place.engine (sym c.place.ensures ∙ c.in-Some-place.is) in
+    omega (arith, low)

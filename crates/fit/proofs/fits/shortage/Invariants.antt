@@ -2,7 +2,7 @@ use Rattle.std.proofs.Common.{◌≤◌, ◌<◌, List, map, ℕ}
 use Rattle.fit.specs.Stated.{Stated}
 use Rattle.theory.specs.Demand.{demand_of_all}
 use Rattle.theory.specs.Pattern.{Pattern}
-use Rattle.fit.proofs.fits.fits.Given as goal
+use Rattle.fit.proofs.fits.shortage.Given as goal
 
 abbrev pub invariant-loop-ticks : goal.invariant-loop-ticks
 invariant-loop-ticks g l = record {

@@ -1,11 +1,18 @@
-use Rattle.std.proofs.Common.{◌≡◌, false, ◌-◌, ◌≤◌, map, min, refl, inl, inr, ap, Bor, arith}
+use Rattle.std.proofs.Common.{◌≡◌, false, ◌-◌, ◌≤◌, map, min, refl, sym, inl, inr, ap, Bor, arith}
 use Rattle.std.proofs.lemmas.Bool.{both_ways, cases_lt}
 use Rattle.claim.specs.declared.claim.Claim.{Claim}
-use Rattle.fit.specs.Fits.{given_of_all}
+use Rattle.fit.specs.Fits.{Short, given_of_all}
 use Rattle.fit.proofs.Pacing.{paced}
 use Rattle.fit.proofs.Stating.{given_in_all}
 use Rattle.fit.proofs.Walking.{least_within, settled, skips}
-use Rattle.fit.proofs.fits.fits.Goals as goal
+use Rattle.fit.proofs.fits.shortage.Goals as goal
+
+pub returns-then-is_short-clause-fits : goal.returns-then-is_short-clause-fits
+returns-then-is_short-clause-fits g c =
+    let cs = map (λ (b : Bor Claim). b.now) c.args.claims.now in
+    let n = min c.args.near 28800 in
+    let short : Short (g.P.Supply.supply c.args.platform.now c.args.engine) cs n = c.is_short.ensures.0 c.if-is_short.true in
+    λ ps st. (λ y. absurd (both_ways false refl (sym y)), λ fit. absurd (omega (arith, short, given_in_all ps cs st n, fit n)))
 
 pub returns-in_default-clause-fits : goal.returns-in_default-clause-fits
 returns-in_default-clause-fits g c =
@@ -14,7 +21,7 @@ returns-in_default-clause-fits g c =
     let cs = map (λ (b : Bor Claim). b.now) c.args.claims.now in
     let more : given_of_all cs t ≤ c.from-served.result → ⊥ = c.in_default.ensures in
     let far : min t 28800 ≡ t = omega (arith, c.loop-ticks.invariant.within) in
-    λ ps st. (λ y. absurd (both_ways false refl y), λ fit. absurd (more (omega (arith, given_in_all ps cs st t, fit t, c.supply.ensures, c.from-served.ensures, ap s far))))
+    λ ps st. (λ y. absurd (both_ways false refl (sym y)), λ fit. absurd (more (omega (arith, given_in_all ps cs st t, fit t, c.supply.ensures, c.from-served.ensures, ap s far))))
 
 pub loop-ticks-preserved : goal.loop-ticks-preserved
 loop-ticks-preserved g c =
