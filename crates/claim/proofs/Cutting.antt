@@ -5,6 +5,7 @@ use Rattle.std.specs.List.{All, AllByRecursion, AllZip}
 use Rattle.std.specs.List.Sorted.{IsPermutation}
 use Rattle.std.proofs.lemmas.Bool.{cases_Bool}
 use Rattle.std.proofs.lemmas.List.Elements.{All-nil, All-cons}
+use Rattle.std.proofs.lemmas.List.Sorted.{All-permutation}
 use Rattle.few.specs.Few.{items}
 use Rattle.claim.specs.declared.claim.Claim.{Claim}
 use Rattle.claim.specs.declared.claim.Cut.{Cut}
@@ -67,6 +68,14 @@ greatest_alike f g alike (x ∷ xs) = let rec = greatest_alike f g alike xs in o
 each_low : {X : Type 0} (f : X → ℕ) (m : ℕ) → ((x : X) → f x ≤ m) → (xs : List X) → greatest f xs ≤ m
 each_low f m low [] = omega arith
 each_low f m low (x ∷ xs) = let rec = each_low f m low xs in omega (arith, low x)
+
+-- the ends of windows that fit in a deadline are at most that
+pub ends_within : (d : ℕ) (ts : List Task) (es : List ℕ) → AllByRecursion (λ x. FitsIn d (window_of x)) ts → IsPermutation (map end_of ts) es → All (λ e. e ≤ d) es
+ends_within d ts es fits same = All-permutation (λ e. e ≤ d) (map end_of ts) es same (each ts fits)
+  where
+    each : (xs : List Task) → AllByRecursion (λ x. FitsIn d (window_of x)) xs → All (λ e. e ≤ d) (map end_of xs)
+    each [] all = All-nil (λ e. e ≤ d)
+    each (x ∷ xs) all = All-cons (λ e. e ≤ d) (end_of x) (map end_of xs) all.0.closes (each xs all.1)
 
 module _ (p : Plan) (ts : List Task) (formed : WellFormed (pattern_of p ts)) (fits : AllByRecursion (λ x. FitsIn p.job.deadline (window_of x)) ts) where
   abbrev rows : List (List Bool)

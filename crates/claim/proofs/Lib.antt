@@ -4,3 +4,6 @@ pub mod Within
 pub mod Stairs
 pub mod Cutting
 pub mod Reaching
+pub mod Passing
+pub mod Growing
+pub mod Climbing

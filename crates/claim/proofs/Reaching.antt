@@ -14,19 +14,19 @@ use Rattle.claim.specs.Asking.{ended, given_later, reach_of, step, whole_ones}
 use Rattle.claim.specs.Claim.{by_end, stair}
 use Rattle.theory.specs.Demand.{greatest}
 
-rising_tail : (x : ℕ) (xs : List ℕ) → IsNonDecreasing (x ∷ xs) → IsNonDecreasing xs
+pub rising_tail : (x : ℕ) (xs : List ℕ) → IsNonDecreasing (x ∷ xs) → IsNonDecreasing xs
 rising_tail x xs up i j d low high = up (suc i) (suc j) d (omega arith) (omega arith)
 
-ended_cons : (e : ℕ) (es : List ℕ) (y : ℕ) → ended (e ∷ es) y ≡ cond (nat_le e y) 1 0 + ended es y
+pub ended_cons : (e : ℕ) (es : List ℕ) (y : ℕ) → ended (e ∷ es) y ≡ cond (nat_le e y) 1 0 + ended es y
 ended_cons e es y = sum_by-cons (λ x. cond (nat_le x y) 1 0) e es
 
-one_ended : (e y n : ℕ) → e ≤ y → cond (nat_le e y) n 0 ≡ n
+pub one_ended : (e y n : ℕ) → e ≤ y → cond (nat_le e y) n 0 ≡ n
 one_ended e y n due = grind (arith, nat_tests)
 
-not_ended : (e y n : ℕ) → y < e → cond (nat_le e y) n 0 ≡ 0
+pub not_ended : (e y n : ℕ) → y < e → cond (nat_le e y) n 0 ≡ 0
 not_ended e y n past = grind (arith, nat_tests)
 
-none_ended : (es : List ℕ) (y : ℕ) → ((i : ℕ) → i < length es → y < slice_index es i) → ended es y ≡ 0
+pub none_ended : (es : List ℕ) (y : ℕ) → ((i : ℕ) → i < length es → y < slice_index es i) → ended es y ≡ 0
 none_ended [] y past = refl
 none_ended (e ∷ es) y past =
     let rec = none_ended es y (λ i below. past (suc i) (omega arith)) in
@@ -76,7 +76,7 @@ greatest_push f (y ∷ xs) x = let rec = greatest_push f xs x in omega arith
 pub few_ends : (c : Claim) → length (items c.ends) ≤ 24
 few_ends c = omega (arith, c.ends.fits, c.ends.sized, length-take c.ends.len c.ends.places)
 
-by_step : (c : Claim) (k : Cut) (y : ℕ) → by_end c k y ≡ step k.most (ended (items c.ends) y)
+pub by_step : (c : Claim) (k : Cut) (y : ℕ) → by_end c k y ≡ step k.most (ended (items c.ends) y)
 by_step c k y = stair_step (items c.ends) k.most y c.sorted k.rising (omega (arith, few_ends c, k.placed))
 
 pub due_is : (c : Claim) (k : Cut) (y : ℕ) (r : Reach) → r ≡ reach_of c y → step k.most r.first + (r.wholes * c.whole + step c.arrival.most r.last) ≡ by_end c k y + given_later c y

@@ -4,9 +4,10 @@
 --   given_at c n k      the most in n ticks from the moment of the cut k
 --   given c n           the most in n ticks
 --   ended es y          how many of the ends es are at most y
---   step most n         the n-th of the values most, and 0 before the first
+--   step values n       the n-th of the values, and 0 before the first
 --   reach_of c y        the ends that an arrival has passed up to y after it, the whole ones after it, and the ends that the last one has passed
-use Rattle.std.specs.Prelude.{ℕ, ◌+◌, ◌-◌, ◌*◌, ◌/◌, max, List, ◌∷◌, count_by, nat_le, slice_index_or}
+--   Begins c y b        from b after an arrival up to y after it, it is the same
+use Rattle.std.specs.Prelude.{◌≡◌, ◌≤◌, ℕ, ◌+◌, ◌-◌, ◌*◌, ◌/◌, max, List, ◌∷◌, count_by, nat_le, slice_index_or}
 use Rattle.few.specs.Few.{items}
 use Rattle.claim.specs.declared.asking.Reach.{Reach}
 use Rattle.claim.specs.declared.claim.Claim.{Claim}
@@ -30,7 +31,7 @@ abbrev pub ended : List ℕ → ℕ → ℕ
 ended es y = count_by (λ e. nat_le e y) es
 
 abbrev pub step : List ℕ → ℕ → ℕ
-step most n = slice_index_or (0 ∷ most) n 0
+step values n = slice_index_or (0 ∷ values) n 0
 
 abbrev pub reach_of : Claim → ℕ → Reach
 reach_of c y = record {
@@ -38,3 +39,7 @@ reach_of c y = record {
   wholes = whole_ones c y;
   last = ended (items c.ends) (y - (whole_ones c y + 1) * c.period);
 }
+
+pub record Begins (c : Claim) (y b : ℕ) : Type 0 where
+  pub within : b ≤ y
+  pub same : (z : ℕ) → b ≤ z → z ≤ y → reach_of c z ≡ reach_of c y

@@ -1,3 +1,4 @@
 pub mod Claim
 pub mod Asking
 pub mod Making
+pub mod Plateau

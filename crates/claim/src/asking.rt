@@ -1,12 +1,14 @@
 //! The demand that a claim states.
 ghost use Rattle.std.specs.Prelude.{◌≡◌, ℕ, ◌+◌, ◌-◌, ◌*◌, ◌/◌, ◌<◌, ◌≤◌, ◌^◌, length, slice_index};
-ghost use Rattle.claim.specs.Asking.{ended, given, reach_of, step};
+ghost use Rattle.claim.specs.Asking.{Begins, ended, given, given_at, reach_of, step};
 ghost use Rattle.claim.specs.Claim.{Claims};
+ghost use Rattle.claim.specs.Plateau.{Level};
 ghost use Rattle.few.specs.Few.{items};
 ghost use Rattle.theory.specs.Demand.{demand};
 ghost use Rattle.theory.specs.Pattern.{Pattern, WellFormed};
 
 use crate::claim::{Claim, Cut};
+use crate::plateau::Plateau;
 use task::node::{NODES, Ticks};
 
 /// What falls due up to a moment after an arrival: the ends that the arrival has passed by then, the whole arrivals after it, and the ends that the last arrival has passed.
@@ -24,13 +26,13 @@ const NOTHING: Reach = Reach {
     last: 0,
 };
 
-/// The most beside the last of so many ends.
-fn step(most: &[Ticks; NODES], ended: usize) -> Ticks
-    ensures { result ≡ step most.now ended }
+/// What stands beside the last of so many ends.
+fn step(values: &[Ticks], ended: usize) -> Ticks
+    ensures { result ≡ step values.now ended }
 {
     ended
         .checked_sub(1)
-        .and_then(|last| most.get(last))
+        .and_then(|last| values.get(last))
         .map_or(0, |ticks| *ticks)
 }
 
@@ -78,6 +80,7 @@ impl Claim {
         requires { y < 2 ^ 40 }
         ensures is { result ≡ reach_of self.now y }
         ensures few { result.wholes < 2 ^ 40 }
+        ensures near { result.wholes * self.now.period < 2 ^ 40 }
     {
         let period = u64::from(self.period);
         let wholes = self.wholes(y.saturating_sub(u64::from(self.deadline)), near.wholes);
@@ -99,17 +102,61 @@ impl Claim {
         first + (reach.wholes * u64::from(self.whole) + last)
     }
 
+    /// The moment at which the last of that falls due.
+    fn last_due(&self, reach: Reach) -> u64
+        requires { reach.wholes * self.now.period < 2 ^ 40 }
+        ensures { (y : ℕ) → reach ≡ reach_of self.now y → Begins self.now y result }
+    {
+        let period = u64::from(self.period);
+        let first = u64::from(step(self.ends.as_slice(), reach.first));
+        let whole = match reach.wholes {
+            0 => 0,
+            wholes => wholes * period + u64::from(self.deadline),
+        };
+        let last = match step(self.ends.as_slice(), reach.last) {
+            0 => 0,
+            end => (reach.wholes + 1) * period + u64::from(end),
+        };
+        first.max(whole).max(last)
+    }
+
+    /// What falls due within so many ticks from a cut on.
+    fn plateau_at(&self, cut: &Cut, ticks: u32, reach: Reach) -> Plateau
+        requires is { reach ≡ reach_of self.now (cut.now.«from» + ticks) }
+        requires few { reach.wholes < 2 ^ 40 }
+        requires near { reach.wholes * self.now.period < 2 ^ 40 }
+        ensures here { result.until ≡ ticks }
+        ensures within { result.since ≤ ticks }
+        ensures level { Level (λ n. given_at self.now n cut.now) result }
+    {
+        let since = self.last_due(reach).saturating_sub(u64::from(cut.from));
+        Plateau {
+            most: self.due(cut, reach),
+            since: since as u32,
+            until: ticks,
+        }
+    }
+
+    /// The most that can fall due within so many ticks, and in how few already.
+    pub fn plateau(&self, ticks: u32) -> Plateau
+        ensures here { result.until ≡ ticks }
+        ensures within { result.since ≤ ticks }
+        ensures level { Level (given self.now) result }
+    {
+        let mut reach = self.reach(u64::from(self.arrival.from) + u64::from(ticks), NOTHING);
+        let mut plateau = self.plateau_at(&self.arrival, ticks, reach);
+        for cut in self.cuts.iter() {
+            reach = self.reach(u64::from(cut.from) + u64::from(ticks), reach);
+            plateau = self.plateau_at(cut, ticks, reach).or_higher(plateau);
+        }
+        plateau
+    }
+
     /// The most that can fall due within so many ticks.
     pub fn demand(&self, ticks: u32) -> u64
         ensures given { result ≡ given self.now ticks }
         ensures demand { (p : Pattern) → WellFormed p → Claims p self.now → result ≡ demand p ticks }
     {
-        let mut reach = self.reach(u64::from(self.arrival.from) + u64::from(ticks), NOTHING);
-        let mut most = self.due(&self.arrival, reach);
-        for cut in self.cuts.iter() {
-            reach = self.reach(u64::from(cut.from) + u64::from(ticks), reach);
-            most = self.due(cut, reach).max(most);
-        }
-        most
+        self.plateau(ticks).most
     }
 }

@@ -1,5 +1,5 @@
 //! What a part asks of its engine.
-ghost use Rattle.std.specs.Prelude.{◌≡◌, ◌≤◌, length};
+ghost use Rattle.std.specs.Prelude.{◌≡◌, ℕ, ◌<◌, ◌≤◌, length, slice_index};
 ghost use Rattle.std.specs.List.Sorted.{IsNonDecreasing};
 ghost use Rattle.few.specs.Few.{items};
 
@@ -29,4 +29,5 @@ pub struct Claim {
     ghost some: { 1 ≤ period },
     ghost light: { whole ≤ 345600 },
     ghost sorted: { IsNonDecreasing (items ends) },
+    ghost covered: { (i : ℕ) → i < length (items ends) → slice_index arrival.most i ≤ whole },
 }

@@ -4,3 +4,4 @@
 pub mod asking;
 pub mod claim;
 pub mod making;
+pub mod plateau;

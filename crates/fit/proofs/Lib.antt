@@ -4,3 +4,4 @@ pub mod Serving
 pub mod Spending
 pub mod Stating
 pub mod Walking
+pub mod Keeping

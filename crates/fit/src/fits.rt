@@ -1,16 +1,22 @@
 //! The fit test of an engine.
 ghost use Rattle.std.specs.Int.{IsGcd};
 ghost use Rattle.std.specs.Prelude.{◌≡◌, ◌-◌, ◌≤◌, ◌↔◌, IsNone, IsTrue, IfSome, List, map, min, SomeIff};
-ghost use Rattle.fit.specs.Fits.{Fits, LeastFor, Paced, Short, given_of_all};
+ghost use Rattle.claim.specs.Asking.{given};
+ghost use Rattle.claim.specs.Plateau.{Level};
+ghost use Rattle.fit.specs.Fits.{Fits, Kept, LeastFor, Paced, Short, given_of_all};
 ghost use Rattle.fit.specs.Multiple.{LeastMultiple, Periodic};
 ghost use Rattle.fit.specs.Stated.{Stated};
 ghost use Rattle.theory.specs.Pattern.{Pattern};
 
 use claim::claim::Claim;
+use claim::plateau::Plateau;
 use engine::supply::{FARTHEST, Supply};
 
 /// A belt cycle, in ticks.
 const CYCLE: u32 = 14_400;
+
+/// Of how many claims a walk keeps the plateaus; the claims after these are asked anew each time. A board passes no more.
+const KEPT: usize = 129;
 
 /// The greatest number that divides both.
 fn greatest_divisor(one: u32, other: u32) -> u32
@@ -40,13 +46,32 @@ fn common_multiple(claims: &[&Claim]) -> u32
     CYCLE / shared
 }
 
+/// What a claim asks in so many ticks. It is asked only where the plateau that is kept of it does not say.
+fn asked(claim: &Claim, kept: &mut Plateau, ticks: u32) -> u64
+    requires { Level (given claim.now) kept.old }
+    ensures asked { result ≡ given claim.now ticks }
+    ensures kept { Level (given claim.now) kept.new }
+{
+    if !kept.spans(ticks) {
+        *kept = claim.plateau(ticks);
+    }
+    kept.most
+}
+
 /// What the claims leave of the ticks that are served in so many; nothing where they ask for more.
-fn spare(claims: &[&Claim], ticks: u32, served: u64) -> Option<u64>
-    ensures { SomeIff result (given_of_all (map (λ c. c.now) claims.now) ticks ≤ served) (served - given_of_all (map (λ c. c.now) claims.now) ticks) }
+fn spare(claims: &[&Claim], kept: &mut [Plateau], ticks: u32, served: u64) -> Option<u64>
+    requires { Kept (map (λ c. c.now) claims.now) kept.old }
+    ensures spare { SomeIff result (given_of_all (map (λ c. c.now) claims.now) ticks ≤ served) (served - given_of_all (map (λ c. c.now) claims.now) ticks) }
+    ensures kept { Kept (map (λ c. c.now) claims.now) kept.new }
 {
     let mut left = served;
-    for claim in claims {
-        left = left.checked_sub(claim.demand(ticks))?;
+    for (place, claim) in claims.iter().enumerate() {
+        let asked = if place < kept.len() {
+            asked(claim, &mut kept[place], ticks)
+        } else {
+            claim.demand(ticks)
+        };
+        left = left.checked_sub(asked)?;
     }
     Some(left)
 }
@@ -57,7 +82,8 @@ fn least_for<P: Supply>(platform: &P, engine: usize, ticks: u32, asked: u64) -> 
     requires enough { asked ≤ P.Supply.supply platform.now engine ticks }
     ensures { LeastFor (P.Supply.supply platform.now engine) asked result }
 {
-    let mut low = 0;
+    // No engine serves more ticks than there are.
+    let mut low = asked as u32;
     let mut high = ticks;
     while low < high {
         let middle = (low + high) / 2;
@@ -76,7 +102,7 @@ pub fn is_short<P: Supply>(platform: &P, engine: usize, claims: &[&Claim], ticks
 {
     let ticks = ticks.min(FARTHEST);
     let served = u64::from(platform.supply(engine, ticks));
-    spare(claims, ticks, served).is_none()
+    spare(claims, &mut [], ticks, served).is_none()
 }
 
 /// A number of ticks in which the claims ask for more than the engine serves; nothing where there is no such number. `near` is tried first.
@@ -91,9 +117,10 @@ pub fn shortage<P: Supply>(platform: &P, engine: usize, claims: &[&Claim], near:
     // Twice a common multiple of the periods settles every number of ticks, so the walk begins there.
     let farthest = 2 * common_multiple(claims);
     let mut ticks = farthest;
+    let mut kept = [Plateau::NOWHERE; KEPT];
     while ticks > 0 {
         let served = u64::from(platform.supply(engine, ticks));
-        let Some(spare) = spare(claims, ticks, served) else {
+        let Some(spare) = spare(claims, &mut kept, ticks, served) else {
             return Some(ticks);
         };
         // In fewer ticks no more is asked, so those in which as much is served need no look.

@@ -2,6 +2,7 @@ use Rattle.std.proofs.Common.{◌≡◌, false, ◌-◌, ◌≤◌, map, min, re
 use Rattle.std.proofs.lemmas.Bool.{both_ways, cases_lt}
 use Rattle.claim.specs.declared.claim.Claim.{Claim}
 use Rattle.fit.specs.Fits.{Short, given_of_all}
+use Rattle.fit.proofs.Keeping.{kept_none}
 use Rattle.fit.proofs.Pacing.{paced}
 use Rattle.fit.proofs.Stating.{given_in_all}
 use Rattle.fit.proofs.Walking.{least_within, settled, skips}
@@ -19,9 +20,19 @@ returns-in_default-clause-fits g c =
     let s = g.P.Supply.supply c.args.platform.now c.args.engine in
     let t = c.loop-ticks.ticks in
     let cs = map (λ (b : Bor Claim). b.now) c.args.claims.now in
-    let more : given_of_all cs t ≤ c.from-served.result → ⊥ = c.in_default.ensures in
+    let more : given_of_all cs t ≤ c.from-served.result → ⊥ = c.in_default.ensures.spare in
     let far : min t 28800 ≡ t = omega (arith, c.loop-ticks.invariant.within) in
     λ ps st. (λ y. absurd (both_ways false refl (sym y)), λ fit. absurd (more (omega (arith, given_in_all ps cs st t, fit t, c.supply.ensures, c.from-served.ensures, ap s far))))
+
+pub spare-requires : goal.spare-requires
+spare-requires g c = c.loop-ticks.invariant.kept
+
+pub loop-ticks-init : goal.loop-ticks-init
+loop-ticks-init g c = record {
+  within = omega arith;
+  passed = λ ps st n low high. absurd (omega arith);
+  kept = kept_none (map (λ (b : Bor Claim). b.now) c.args.claims.now) 129;
+}
 
 pub loop-ticks-preserved : goal.loop-ticks-preserved
 loop-ticks-preserved g c =
@@ -37,8 +48,9 @@ loop-ticks-preserved g c =
       within = omega (arith, least_within s (c.from-served.result - c.in-Some.spare) m t c.least_for.ensures (omega (arith, c.supply.ensures, c.from-served.ensures, ap s far)), c.saturating_sub-ticks.ensures, inv.within);
       passed = λ ps st n low high. elim (cases_lt t n) [
         | inl beyond ↦ inv.passed ps st n beyond high
-        | inr here ↦ skips s _ _ (g.P.Supply.laws p e) ps cs st t (c.from-served.result - c.in-Some.spare) m (omega (arith, c.in-Some.ensures)) c.least_for.ensures n (omega (arith, c.saturating_sub-ticks.ensures)) here
+        | inr here ↦ skips s _ _ (g.P.Supply.laws p e) ps cs st t (c.from-served.result - c.in-Some.spare) m (omega (arith, c.in-Some.ensures.spare)) c.least_for.ensures n (omega (arith, c.saturating_sub-ticks.ensures)) here
       ];
+      kept = c.in-Some.ensures.kept;
     }
 
 pub returns-clause-fits : goal.returns-clause-fits

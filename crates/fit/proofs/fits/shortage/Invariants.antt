@@ -1,4 +1,5 @@
 use Rattle.std.proofs.Common.{◌≤◌, ◌<◌, List, map, ℕ}
+use Rattle.fit.specs.Fits.{Kept}
 use Rattle.fit.specs.Stated.{Stated}
 use Rattle.theory.specs.Demand.{demand_of_all}
 use Rattle.theory.specs.Pattern.{Pattern}
@@ -8,6 +9,7 @@ abbrev pub invariant-loop-ticks : goal.invariant-loop-ticks
 invariant-loop-ticks g l = record {
   within : l.ticks ≤ l.farthest;
   passed : (ps : List Pattern) → Stated ps (map (λ c. c.now) l.claims) → (n : ℕ) → l.ticks < n → n ≤ l.farthest → demand_of_all ps n ≤ g.P.Supply.supply l.platform l.engine n;
+  kept : Kept (map (λ c. c.now) l.claims) l.kept;
 }
 
 abbrev pub decreases-loop-ticks : goal.decreases-loop-ticks
