@@ -69,5 +69,13 @@ module _ (c : Claim) (n : ℕ) where
       })
       (λ up. record { here = so_far.here; within = so_far.within; most = omega (arith, so_far.most); under = so_far.under })
 
+  pub highest_skip : (ks : List Cut) (k : Cut) (b : Plateau) → given_at c n k ≤ b.most → Highest c n ks b → Highest c n (ks ++ k ∷ []) b
+  highest_skip ks k b low so_far = record {
+    here = so_far.here;
+    within = so_far.within;
+    most = omega (arith, so_far.most, greatest_push (given_at c n) ks k);
+    under = so_far.under;
+  }
+
   pub highest_all : (a : Plateau) → Highest c n (items c.cuts) a → Level (given c) a
   highest_all a all m spans = omega (arith, all.under m spans, all.most, all.here, given_up c m n (omega (arith, all.here, spans.1)))

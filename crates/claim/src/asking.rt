@@ -147,7 +147,10 @@ impl Claim {
         let mut plateau = self.plateau_at(&self.arrival, ticks, reach);
         for cut in self.cuts.iter() {
             reach = self.reach(u64::from(cut.from) + u64::from(ticks), reach);
-            plateau = self.plateau_at(cut, ticks, reach).or_higher(plateau);
+            // From when on a lower cut is as high plays no part.
+            if plateau.most <= self.due(cut, reach) {
+                plateau = self.plateau_at(cut, ticks, reach).or_higher(plateau);
+            }
         }
         plateau
     }
