@@ -1,0 +1,26 @@
+-- Where an open sub-task stands, and what can happen to it.
+--   meaning f      the phase f of a run over lists: what waits or is ready is pending
+--   stepped e f    the phase f after the event e
+use Rattle.std.specs.Prelude.{◌-◌, cond, nat_lt}
+use Rattle.dispatch.specs.declared.phase.Event.{Event}
+use Rattle.dispatch.specs.declared.phase.Event.TheVariants.{Done, EndPassed, OffsetReached, Served}
+use Rattle.dispatch.specs.declared.phase.Phase.{Phase}
+use Rattle.dispatch.specs.declared.phase.Phase.TheVariants.{Finished, Late, Ready, Waiting}
+use Rattle.runs.specs.State.{finished, late, pending, Phase as Model}
+
+abbrev pub meaning : Phase → Model
+meaning (Waiting n) = pending n
+meaning (Ready n) = pending n
+meaning Finished = finished
+meaning Late = late
+
+abbrev pub stepped : Event → Phase → Phase
+stepped OffsetReached (Waiting n) = Ready n
+stepped OffsetReached f = f
+stepped Served (Ready n) = cond (nat_lt 1 n) (Ready (n - 1)) Finished
+stepped Served f = f
+stepped Done (Ready n) = Finished
+stepped Done f = f
+stepped EndPassed (Waiting n) = Late
+stepped EndPassed (Ready n) = Late
+stepped EndPassed f = f

@@ -1,0 +1,4 @@
+//! Which sub-tasks run: the open sub-tasks of a board that runs, in place, and what a tick does to them.
+#![tactic(auto)]
+
+pub mod phase;
