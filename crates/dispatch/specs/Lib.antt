@@ -1,1 +1,5 @@
 pub mod Phase
+pub mod Slot
+pub mod Candidate
+pub mod Table
+pub mod Choosing

@@ -1,4 +1,8 @@
 //! Which sub-tasks run: the open sub-tasks of a board that runs, in place, and what a tick does to them.
 #![tactic(auto)]
 
+pub mod candidate;
+pub mod choosing;
 pub mod phase;
+pub mod slot;
+pub mod table;

@@ -1,0 +1,26 @@
+//! The open sub-tasks of a job.
+ghost use Rattle.std.specs.Prelude.{◌≡◌, ◌<◌, ◌≤◌, length};
+
+use crate::phase::Phase;
+use task::node::{NODES, Ticks};
+
+/// An open sub-task: its node, its engine, its window on the clock of the board, and where it stands.
+#[derive(Debug, Clone, Copy, PartialEq, Eq)]
+pub struct Open {
+    pub node: usize,
+    pub engine: usize,
+    pub release: Ticks,
+    pub due: Ticks,
+    pub phase: Phase,
+    ghost placed: { engine < 16 },
+}
+
+/// A job, and the sub-tasks that its last arrival opened: they lie in the first `len` places.
+#[derive(Debug, Clone, Copy, PartialEq, Eq)]
+pub struct Slot {
+    pub(crate) job: u32,
+    pub(crate) tasks: [Open; NODES],
+    pub(crate) len: usize,
+    ghost sized: { length tasks ≡ 24 },
+    ghost few: { len ≤ 24 },
+}
