@@ -3,3 +3,4 @@ pub mod Slot
 pub mod Candidate
 pub mod Table
 pub mod Choosing
+pub mod Ticking

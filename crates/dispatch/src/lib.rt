@@ -6,3 +6,5 @@ pub mod choosing;
 pub mod phase;
 pub mod slot;
 pub mod table;
+mod tick;
+pub mod ticking;

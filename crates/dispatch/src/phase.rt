@@ -38,8 +38,11 @@ impl Phase {
     {
         *self = match (*self, event) {
             (Phase::Waiting { left }, Event::OffsetReached) => Phase::Ready { left },
+            (Phase::Waiting { left }, Event::Served) if left > 1 => Phase::Waiting { left: left - 1 },
             (Phase::Ready { left }, Event::Served) if left > 1 => Phase::Ready { left: left - 1 },
-            (Phase::Ready { .. }, Event::Served | Event::Done) => Phase::Finished,
+            (Phase::Waiting { .. } | Phase::Ready { .. }, Event::Served | Event::Done) => {
+                Phase::Finished
+            }
             (Phase::Waiting { .. } | Phase::Ready { .. }, Event::EndPassed) => Phase::Late,
             (phase, _) => phase,
         };

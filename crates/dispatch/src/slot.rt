@@ -1,5 +1,5 @@
 //! The open sub-tasks of a job.
-ghost use Rattle.std.specs.Prelude.{◌≡◌, ◌<◌, ◌≤◌, length};
+ghost use Rattle.std.specs.Prelude.{◌<◌, ◌≤◌};
 
 use crate::phase::Phase;
 use task::node::{NODES, Ticks};
@@ -21,6 +21,5 @@ pub struct Slot {
     pub(crate) job: u32,
     pub(crate) tasks: [Open; NODES],
     pub(crate) len: usize,
-    ghost sized: { length tasks ≡ 24 },
     ghost few: { len ≤ 24 },
 }

@@ -1,5 +1,5 @@
 //! The open sub-tasks of a board that runs.
-ghost use Rattle.std.specs.Prelude.{◌≡◌, ◌≤◌, true, length, take};
+ghost use Rattle.std.specs.Prelude.{◌≡◌, ◌≤◌, true, take};
 ghost use Rattle.dispatch.specs.Slot.{slot_in_time};
 ghost use Rattle.std.specs.List.{list_all};
 
@@ -16,7 +16,6 @@ pub struct Table {
     pub(crate) slots: [Slot; SLOTS],
     pub(crate) len: usize,
     ghost short: { clock ≤ 2000000000 },
-    ghost sized: { length slots ≡ 16 },
     ghost few: { len ≤ 16 },
     ghost in_time: { list_all (slot_in_time clock) (take len slots) ≡ true },
 }
