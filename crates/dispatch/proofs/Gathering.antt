@@ -12,8 +12,8 @@ use Rattle.dispatch.specs.declared.phase.Phase.TheVariants.{Finished, Late, Read
 use Rattle.dispatch.specs.declared.slot.Open.{Open}
 use Rattle.dispatch.specs.declared.slot.Slot.{Slot}
 use Rattle.dispatch.specs.Candidate.{key}
-use Rattle.dispatch.specs.Choosing.{all_candidates, candidate, candidates, is_ready, ready_of, ready_on}
-use Rattle.dispatch.specs.Phase.{meaning}
+use Rattle.dispatch.specs.Choosing.{all_candidates, candidate, candidates, ready_of, ready_on, soonest}
+use Rattle.dispatch.specs.Phase.{is_ready, meaning}
 use Rattle.dispatch.specs.Slot.{in_time, phase_in_time, slot_in_time, tasks_in}
 use Rattle.dispatch.specs.Table.{shown, slot_shown}
 use Rattle.runs.specs.Next.{better, Key, next, ready, sooner}
@@ -73,3 +73,7 @@ first_in_all e t o (s ∷ ss) all =
     ∙ (first_in_all e t (first_of o (map key (candidates e s))) ss both.1
     ∙ (sym (fold-append (λ found k. sooner k found) o (map key (candidates e s)) (map key (all_candidates e ss)))
     ∙ ap (first_of o) (sym (map-append key (candidates e s) (all_candidates e ss))))))
+
+pub soonest_first : (o : Option Key) (cs : List Candidate) → soonest o cs ≡ first_of o (map key cs)
+soonest_first o [] = refl
+soonest_first o (c ∷ cs) = soonest_first (sooner (key c) o) cs

@@ -1,2 +1,4 @@
 pub mod Gathering
 pub mod First
+pub mod Sweep
+pub mod Turning

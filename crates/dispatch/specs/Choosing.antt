@@ -3,19 +3,15 @@
 --   candidate j o            o, of the job with the number j, as a candidate
 --   candidates e s           those of the slot s that are ready on the engine e
 --   all_candidates e ss      those of all slots, slot by slot
-use Rattle.std.specs.Prelude.{ℕ, Bool, true, false, ◌&&◌, ◌==◌, List, filter, flat_map, map}
+--   soonest o cs             the first of the candidates cs, by what was found so far
+use Rattle.std.specs.Prelude.{ℕ, Bool, ◌&&◌, ◌==◌, List, filter, flat_map, fold, map, Option}
 use Rattle.dispatch.specs.declared.candidate.Candidate.{Candidate}
-use Rattle.dispatch.specs.declared.phase.Phase.{Phase}
-use Rattle.dispatch.specs.declared.phase.Phase.TheVariants.{Finished, Late, Ready, Waiting}
 use Rattle.dispatch.specs.declared.slot.Open.{Open}
 use Rattle.dispatch.specs.declared.slot.Slot.{Slot}
+use Rattle.dispatch.specs.Candidate.{key}
+use Rattle.dispatch.specs.Phase.{is_ready}
 use Rattle.dispatch.specs.Slot.{tasks_in}
-
-abbrev pub is_ready : Phase → Bool
-is_ready (Waiting n) = false
-is_ready (Ready n) = true
-is_ready Finished = false
-is_ready Late = false
+use Rattle.runs.specs.Next.{Key, sooner}
 
 abbrev pub ready_on : ℕ → Open → Bool
 ready_on e o = is_ready o.phase && (o.engine == e)
@@ -31,3 +27,6 @@ candidates e s = ready_of e s.job (tasks_in s)
 
 abbrev pub all_candidates : ℕ → List Slot → List Candidate
 all_candidates e ss = flat_map (candidates e) ss
+
+abbrev pub soonest : Option Key → List Candidate → Option Key
+soonest o cs = fold (λ found c. sooner (key c) found) o cs

@@ -1,8 +1,9 @@
 -- Where an open sub-task stands, and what can happen to it.
 --   meaning f      the phase f of a run over lists: what waits or is ready is pending
+--   is_ready f     whether it is ready
 --   stepped e f    the phase f after the event e
 --   phase_by b m   the phase that m stands for: what is pending is ready if b, else it waits
-use Rattle.std.specs.Prelude.{◌-◌, Bool, cond, nat_lt}
+use Rattle.std.specs.Prelude.{◌-◌, Bool, true, false, cond, nat_lt}
 use Rattle.dispatch.specs.declared.phase.Event.{Event}
 use Rattle.dispatch.specs.declared.phase.Event.TheVariants.{Done, EndPassed, OffsetReached, Served}
 use Rattle.dispatch.specs.declared.phase.Phase.{Phase}
@@ -14,6 +15,12 @@ meaning (Waiting n) = pending n
 meaning (Ready n) = pending n
 meaning Finished = finished
 meaning Late = late
+
+abbrev pub is_ready : Phase → Bool
+is_ready (Waiting n) = false
+is_ready (Ready n) = true
+is_ready Finished = false
+is_ready Late = false
 
 abbrev pub stepped : Event → Phase → Phase
 stepped OffsetReached (Waiting n) = Ready n

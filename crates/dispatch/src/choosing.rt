@@ -1,16 +1,16 @@
 //! Which sub-task an engine runs next.
-ghost use Rattle.std.specs.Prelude.{◌≡◌, ◌+◌, ◌≤◌, ◌++◌, length};
-ghost use Rattle.dispatch.specs.Candidate.{named};
-ghost use Rattle.dispatch.specs.Choosing.{all_candidates, candidate, candidates, ready_on};
+ghost use Rattle.std.specs.Prelude.{◌≡◌, ℕ, ◌+◌, ◌<◌, ◌≤◌, ◌++◌, length, None, slice_index_or};
+ghost use Rattle.dispatch.specs.Candidate.{key, named};
+ghost use Rattle.dispatch.specs.Choosing.{all_candidates, candidate, candidates, ready_on, soonest};
 ghost use Rattle.dispatch.specs.Table.{slots_in, tasks_open};
 ghost use Rattle.few.specs.Few.{items};
-ghost use Rattle.runs.specs.Next.{next};
+ghost use Rattle.runs.specs.Next.{next, sooner};
 ghost use Rattle.std.specs.Option.{option_map};
 
 use crate::candidate::{Candidate, Next};
-use crate::phase::Phase;
 use crate::slot::{Open, Slot};
 use crate::table::{SLOTS, Table};
+use engine::roster::ENGINES;
 use few::few::Few;
 use order::least::least;
 use task::node::NODES;
@@ -30,7 +30,7 @@ impl Open {
     fn is_ready_on(&self, engine: usize) -> bool
         ensures { result ≡ ready_on engine self.now }
     {
-        matches!(self.phase, Phase::Ready { .. }) && self.engine == engine
+        self.phase.is_ready() && self.engine == engine
     }
 
     /// It, of the job, as a candidate.
@@ -45,6 +45,16 @@ impl Open {
     }
 }
 
+/// The first of what was found so far and one more.
+fn sooner(first: Option<Candidate>, candidate: Candidate) -> Option<Candidate>
+    ensures { option_map key result ≡ sooner (key candidate) (option_map key first) }
+{
+    match first {
+        Some(first) if !candidate.is_before(first) => Some(first),
+        _ => Some(candidate),
+    }
+}
+
 impl Slot {
     /// Puts its sub-tasks that are ready on the engine behind the others.
     fn gather(&self, engine: usize, found: &mut Few<Candidate, TASKS>)
@@ -54,6 +64,18 @@ impl Slot {
         for task in self.tasks[..self.len].iter() {
             if task.is_ready_on(engine) {
                 found.push(task.candidate(self.job)).unwrap();
+            }
+        }
+    }
+
+    /// Looks at its sub-tasks for the first on each engine.
+    fn note(&self, firsts: &mut [Option<Candidate>; ENGINES])
+        ensures { (e : ℕ) → e < 16 → option_map key (slice_index_or firsts.new e None) ≡ soonest (option_map key (slice_index_or firsts.old e None)) (candidates e self.now) }
+    {
+        for task in self.tasks[..self.len].iter() {
+            if task.phase.is_ready() {
+                let engine = task.engine;
+                firsts[engine] = sooner(firsts[engine], task.candidate(self.job));
             }
         }
     }
@@ -78,5 +100,16 @@ impl Table {
         let found = self.candidates(engine);
         let first = least(found.as_slice())?;
         Some(found.as_slice()[first].named())
+    }
+
+    /// The sub-task that each engine would run next, in one pass over all.
+    pub(crate) fn firsts(&self) -> [Option<Candidate>; ENGINES]
+        ensures { (e : ℕ) → e < 16 → option_map key (slice_index_or result e None) ≡ next e self.now.clock (tasks_open self.now) }
+    {
+        let mut firsts = [None; ENGINES];
+        for slot in self.slots[..self.len].iter() {
+            slot.note(&mut firsts);
+        }
+        firsts
     }
 }

@@ -1,6 +1,6 @@
 //! Where an open sub-task stands.
 ghost use Rattle.std.specs.Prelude.{◌≡◌};
-ghost use Rattle.dispatch.specs.Phase.{meaning, stepped};
+ghost use Rattle.dispatch.specs.Phase.{is_ready, meaning, stepped};
 ghost use Rattle.runs.specs.State.{is_pending};
 
 use task::node::Ticks;
@@ -53,5 +53,12 @@ impl Phase {
         ensures { result ≡ is_pending (meaning self) }
     {
         matches!(self, Phase::Waiting { .. } | Phase::Ready { .. })
+    }
+
+    /// Whether it is ready.
+    pub fn is_ready(self) -> bool
+        ensures { result ≡ is_ready self }
+    {
+        matches!(self, Phase::Ready { .. })
     }
 }

@@ -9,6 +9,9 @@ use task::node::Ticks;
 /// The most jobs that a board has.
 pub const SLOTS: usize = 16;
 
+/// The last clock of a board.
+pub const LAST: Ticks = 2_000_000_000;
+
 /// The clock of a board, and the slots of its jobs: they lie in the first `len` places. What waits is not yet released, and what is ready is.
 #[derive(Debug, Clone, Copy, PartialEq, Eq)]
 pub struct Table {
