@@ -2,3 +2,4 @@ pub mod Gathering
 pub mod First
 pub mod Sweep
 pub mod Turning
+pub mod Arriving

@@ -24,3 +24,9 @@ pub take_kept : {X : Type 0} (f : X → X) (n : ℕ) (xs : List X) → take n (m
 take_kept f zero xs = refl
 take_kept f (suc n) [] = refl
 take_kept f (suc n) (x ∷ xs) = ap (λ l. f x ∷ l) (take_kept f n xs)
+
+-- items that are read at each place are those of a map
+pub take_reads : {X Y : Type 0} (f : X → Y) (xs : List X) (ys : List Y) → length xs ≤ length ys → ((i : ℕ) (d : X) (e : Y) → i < length xs → get_or ys i e ≡ f (get_or xs i d)) → take (length xs) ys ≡ map f xs
+take_reads f [] ys few h = refl
+take_reads f (x ∷ xs) [] few h = absurd (omega arith)
+take_reads f (x ∷ xs) (y ∷ ys) few h = rw (h 0 x y (omega arith)) (ap (λ l. f x ∷ l) (take_reads f xs ys (omega arith) (λ i d e low. h (suc i) d e (omega arith))))

@@ -4,3 +4,4 @@ pub mod Candidate
 pub mod Table
 pub mod Choosing
 pub mod Ticking
+pub mod Opening

@@ -3,8 +3,10 @@
 
 pub mod candidate;
 pub mod choosing;
+pub mod opening;
 pub mod phase;
 pub mod slot;
+pub mod sub_task;
 pub mod table;
 mod tick;
 pub mod ticking;

@@ -8,12 +8,8 @@ use task::node::Ticks;
 /// Where an open sub-task stands: it waits for its release, it is ready, it is finished, or its end has passed before that.
 #[derive(Debug, Clone, Copy, PartialEq, Eq)]
 pub enum Phase {
-    Waiting {
-        left: Ticks,
-    },
-    Ready {
-        left: Ticks,
-    },
+    Waiting { left: Ticks },
+    Ready { left: Ticks },
     Finished,
     Late,
 }
@@ -38,7 +34,9 @@ impl Phase {
     {
         *self = match (*self, event) {
             (Phase::Waiting { left }, Event::OffsetReached) => Phase::Ready { left },
-            (Phase::Waiting { left }, Event::Served) if left > 1 => Phase::Waiting { left: left - 1 },
+            (Phase::Waiting { left }, Event::Served) if left > 1 => Phase::Waiting {
+                left: left - 1,
+            },
             (Phase::Ready { left }, Event::Served) if left > 1 => Phase::Ready { left: left - 1 },
             (Phase::Waiting { .. } | Phase::Ready { .. }, Event::Served | Event::Done) => {
                 Phase::Finished

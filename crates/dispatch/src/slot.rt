@@ -23,3 +23,12 @@ pub struct Slot {
     pub(crate) len: usize,
     ghost few: { len ≤ 24 },
 }
+
+/// An open sub-task that fills the places of a slot after the last one.
+pub(crate) const BLANK: Open = Open {
+    node: 0,
+    engine: 0,
+    release: 0,
+    due: 0,
+    phase: Phase::Finished,
+};

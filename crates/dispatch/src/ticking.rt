@@ -125,12 +125,7 @@ impl Table {
     }
 
     /// Takes a tick: each served engine runs its next sub-task, which has then a tick less, and is finished where none is left or its engine reports that it is done; then the clock rises, and what is open when its end has come is late. It writes what ran on each engine, and answers how many sub-tasks became late; nothing, and nothing changes, where the clock has no tick left.
-    pub fn tick(
-        &mut self,
-        served: u16,
-        done: u16,
-        ran: &mut [Option<Next>; ENGINES],
-    ) -> Option<u32>
+    pub fn tick(&mut self, served: u16, done: u16, ran: &mut [Option<Next>; ENGINES]) -> Option<u32>
         ensures steps { IfSome result (λ late. step (state_of self.old) (tick (masked served) (masked done)) ≡ record (state_of self.new) { lates = late }) }
         ensures ran { OnSome result ((e : ℕ) → e < 16 → slice_index_or ran.new e None ≡ ran_on e self.old served) }
         ensures at_end { IsNone result ↔ (self.old.clock ≡ 2000000000) }
