@@ -1,6 +1,7 @@
 //! What is compared where an engine is to run one of several sub-tasks.
 ghost use Rattle.std.specs.Prelude.{◌≡◌};
-ghost use Rattle.dispatch.specs.Candidate.{key, named};
+ghost use Rattle.dispatch.specs.Candidate.{key, leads, named};
+ghost use Rattle.std.specs.Option.{option_map};
 ghost use Rattle.runs.specs.Next.{before};
 
 use task::node::Ticks;
@@ -35,6 +36,18 @@ impl Candidate {
     pub(crate) fn is_before(self, other: Candidate) -> bool
         ensures { result ≡ before (key self) (key other) }
     {
-        self.cmp(&other).is_lt()
+        self.due < other.due
+            || self.due == other.due
+                && (self.job < other.job || self.job == other.job && self.node < other.node)
+    }
+
+    /// Whether it runs before what was found so far.
+    pub(crate) fn leads(self, found: Option<Candidate>) -> bool
+        ensures { result ≡ leads (key self) (option_map key found) }
+    {
+        match found {
+            Some(found) => self.is_before(found),
+            None => true,
+        }
     }
 }

@@ -45,16 +45,6 @@ impl Open {
     }
 }
 
-/// The first of what was found so far and one more.
-fn sooner(first: Option<Candidate>, candidate: Candidate) -> Option<Candidate>
-    ensures { option_map key result ≡ sooner (key candidate) (option_map key first) }
-{
-    match first {
-        Some(first) if !candidate.is_before(first) => Some(first),
-        _ => Some(candidate),
-    }
-}
-
 impl Slot {
     /// Puts its sub-tasks that are ready on the engine behind the others.
     fn gather(&self, engine: usize, found: &mut Few<Candidate, TASKS>)
@@ -74,8 +64,10 @@ impl Slot {
     {
         for task in self.tasks[..self.len].iter() {
             if task.phase.is_ready() {
-                let engine = task.engine;
-                firsts[engine] = sooner(firsts[engine], task.candidate(self.job));
+                let candidate = task.candidate(self.job);
+                if candidate.leads(firsts[task.engine]) {
+                    firsts[task.engine] = Some(candidate);
+                }
             }
         }
     }
