@@ -1,5 +1,5 @@
 -- A board that begins to run, and what an arrival opens in it.
-use Rattle.std.proofs.Common.{◌≡◌, ℕ, zero, suc, ◌+◌, ◌<◌, ◌≤◌, Bool, true, false, cond, ◌==◌, nat_eq, nat_le, nat_lt, List, [], ◌∷◌, length, get_or, take, map, refl, sym, ap, ◌∙◌, inl, inr, arith}
+use Rattle.std.proofs.Common.{◌≡◌, ℕ, suc, ◌+◌, ◌<◌, ◌≤◌, Bool, true, false, cond, ◌==◌, List, [], ◌∷◌, length, get_or, take, map, refl, sym, ap, ◌∙◌, inl, inr, arith}
 use Rattle.std.proofs.lemmas.Bool.{and_parts, cases_Bool, eqb-true}
 use Rattle.std.proofs.lemmas.Bool.Decides.{nat_tests}
 use Rattle.std.proofs.lemmas.List.{take-map}
@@ -12,7 +12,7 @@ use Rattle.dispatch.specs.Phase.{meaning}
 use Rattle.dispatch.specs.Slot.{in_time, phase_in_time, slot_in_time, tasks_in}
 use Rattle.dispatch.specs.Table.{shown, slot_shown}
 use Rattle.runs.specs.Events.{opened, start}
-use Rattle.runs.specs.State.{OpenTask, pending, Phase as Model, Slot as ModelSlot}
+use Rattle.runs.specs.State.{pending}
 
 -- slots of these jobs with nothing open
 idle_shown : (s : Slot) (n : ℕ) → s.job ≡ n → s.len ≡ 0 → slot_shown s ≡ record { job = bare_job n; arrivals = []; tasks = [] }

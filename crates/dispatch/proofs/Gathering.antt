@@ -1,5 +1,5 @@
 -- Going through open sub-tasks, and which candidates they give.
-use Rattle.std.proofs.Common.{◌≡◌, ℕ, ◌+◌, ◌<◌, ◌≤◌, Bool, true, false, ◌&&◌, ◌==◌, cond, List, [], ◌∷◌, ◌++◌, length, get_or, take, map, flat_map, filter, fold, Option, Some, None, nat_le, nat_lt, refl, sym, ap, ◌∙◌, inl, inr, arith}
+use Rattle.std.proofs.Common.{◌≡◌, ℕ, ◌+◌, ◌<◌, ◌≤◌, Bool, true, false, ◌&&◌, ◌==◌, cond, List, [], ◌∷◌, ◌++◌, length, get_or, take, map, filter, fold, Option, nat_le, refl, sym, ap, ◌∙◌, inl, inr, arith}
 use Rattle.std.proofs.lemmas.Bool.{and_parts, cases_Bool}
 use Rattle.std.proofs.lemmas.Bool.Decides.{nat_tests}
 use Rattle.std.proofs.lemmas.List.{append-nil, map-append, take_more}
@@ -16,7 +16,7 @@ use Rattle.dispatch.specs.Choosing.{all_candidates, candidate, candidates, ready
 use Rattle.dispatch.specs.Phase.{is_ready, meaning}
 use Rattle.dispatch.specs.Slot.{in_time, phase_in_time, slot_in_time, tasks_in}
 use Rattle.dispatch.specs.Table.{shown, slot_shown}
-use Rattle.runs.specs.Next.{better, Key, next, ready, sooner}
+use Rattle.runs.specs.Next.{better, Key, sooner}
 use Rattle.runs.specs.State.{is_pending, tasks_of}
 
 -- one item more of a list

@@ -17,7 +17,7 @@ use Rattle.dispatch.specs.Ticking.{keyed, late_by, masked, slot_late, slot_turne
 use Rattle.dispatch.proofs.Sweep.{take_kept}
 use Rattle.runs.specs.Events.{advance, expired, overdue, serve, step, tick}
 use Rattle.runs.specs.Next.{Key, next}
-use Rattle.runs.specs.State.{each, finished, in_phase, late, OpenTask, pending, Phase as Model, Slot as ModelSlot, tasks_of}
+use Rattle.runs.specs.State.{each, finished, in_phase, late, OpenTask, pending, Phase as Model, tasks_of}
 use Rattle.runs.proofs.Sums.{bit}
 
 pub slot_same : (s : Slot) (ts us : List Open) (few : s.len ≤ 24) → ts ≡ us → ◌≡◌ {A = Slot} (record { job = s.job; tasks = ts; len = s.len; few = few }) (record s { tasks = us })

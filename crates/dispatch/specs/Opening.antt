@@ -6,7 +6,6 @@
 --   opened_in n t ws s  the slot s of a run over lists after an arrival at t of the job with the number n that opens ws
 --   replaced f s        the slot f in the place of s, if it is of the same job
 use Rattle.std.specs.Prelude.{ℕ, ◌+◌, cond, ◌==◌, List, [], map}
-use Rattle.dispatch.specs.declared.phase.Phase.{Phase}
 use Rattle.dispatch.specs.declared.phase.Phase.TheVariants.{Ready, Waiting}
 use Rattle.dispatch.specs.declared.slot.Open.{Open}
 use Rattle.dispatch.specs.declared.slot.Slot.{Slot}

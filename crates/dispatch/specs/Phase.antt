@@ -1,6 +1,6 @@
 -- Where an open sub-task stands, and what can happen to it.
 --   meaning f      the phase f of a run over lists: what waits or is ready is pending
---   is_ready f     whether it is ready
+--   is_waiting f, is_ready f    whether it waits, and whether it is ready
 --   stepped e f    the phase f after the event e
 --   phase_by b m   the phase that m stands for: what is pending is ready if b, else it waits
 use Rattle.std.specs.Prelude.{◌-◌, Bool, true, false, cond, nat_lt}
@@ -15,6 +15,12 @@ meaning (Waiting n) = pending n
 meaning (Ready n) = pending n
 meaning Finished = finished
 meaning Late = late
+
+abbrev pub is_waiting : Phase → Bool
+is_waiting (Waiting n) = true
+is_waiting (Ready n) = false
+is_waiting Finished = false
+is_waiting Late = false
 
 abbrev pub is_ready : Phase → Bool
 is_ready (Waiting n) = false

@@ -7,7 +7,7 @@
 --   slot_turned k s     the slot s after the tick
 --   slot_late k s       how many of its open sub-tasks become late
 --   ran_on e b m        what runs on the engine e of the table b at a tick with the served mask m
-use Rattle.std.specs.Prelude.{ℕ, ◌+◌, Bool, true, cond, ◌==◌, nat_le, List, ◌++◌, count_by, drop, map, Option, Some, None, slice_index_or, take}
+use Rattle.std.specs.Prelude.{ℕ, ◌+◌, Bool, true, cond, ◌==◌, nat_le, ◌++◌, count_by, drop, map, Option, None, slice_index_or}
 use Rattle.std.specs.Int.{bit_at}
 use Rattle.std.specs.Option.{option_map}
 use Rattle.dispatch.specs.declared.candidate.Next.{Next}

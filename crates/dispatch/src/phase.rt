@@ -1,6 +1,6 @@
 //! Where an open sub-task stands.
 ghost use Rattle.std.specs.Prelude.{◌≡◌};
-ghost use Rattle.dispatch.specs.Phase.{is_ready, meaning, stepped};
+ghost use Rattle.dispatch.specs.Phase.{is_ready, is_waiting, meaning, stepped};
 ghost use Rattle.runs.specs.State.{is_pending};
 
 use task::node::Ticks;
@@ -47,16 +47,23 @@ impl Phase {
     }
 
     /// Whether it waits or is ready.
-    pub fn is_pending(self) -> bool
+    pub(crate) fn is_pending(self) -> bool
         ensures { result ≡ is_pending (meaning self) }
     {
         matches!(self, Phase::Waiting { .. } | Phase::Ready { .. })
     }
 
     /// Whether it is ready.
-    pub fn is_ready(self) -> bool
+    pub(crate) fn is_ready(self) -> bool
         ensures { result ≡ is_ready self }
     {
         matches!(self, Phase::Ready { .. })
+    }
+
+    /// Whether it waits.
+    pub(crate) fn is_waiting(self) -> bool
+        ensures { result ≡ is_waiting self }
+    {
+        matches!(self, Phase::Waiting { .. })
     }
 }

@@ -66,7 +66,7 @@ impl Open {
         let is_late = self.phase.is_pending() && self.due <= clock;
         if is_late {
             self.phase.step(Event::EndPassed);
-        } else if self.release <= clock {
+        } else if self.phase.is_waiting() && self.release <= clock {
             self.phase.step(Event::OffsetReached);
         }
         is_late

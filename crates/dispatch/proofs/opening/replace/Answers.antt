@@ -1,4 +1,4 @@
-use Rattle.std.proofs.Common.{◌≡◌, cond, get_or, sym, ap, refl, ◌∙◌, ◌==◌}
+use Rattle.std.proofs.Common.{◌≡◌, cond, get_or, sym, ap, ◌∙◌}
 use Rattle.std.proofs.lemmas.Bool.{eq-eqb, ne_eqb}
 use Rattle.dispatch.specs.Opening.{replaced}
 use Rattle.dispatch.proofs.Sweep.{sweep_on}

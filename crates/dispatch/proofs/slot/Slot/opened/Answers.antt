@@ -1,4 +1,4 @@
-use Rattle.std.proofs.Common.{rules, ◌≡◌, ℕ, ◌<◌, length, take, get_or, ap, sym, ◌∙◌, arith}
+use Rattle.std.proofs.Common.{rules, ◌≡◌, ℕ, ◌<◌, length, take, get_or, ap, ◌∙◌, arith}
 use Rattle.few.specs.Few.{items}
 use Rattle.few.proofs.Filled.{filled}
 use Rattle.dispatch.specs.declared.slot.Open.{Open}

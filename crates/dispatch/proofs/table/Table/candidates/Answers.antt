@@ -1,4 +1,4 @@
-use Rattle.std.proofs.Common.{◌≡◌, ◌+◌, ◌≤◌, ◌++◌, [], length, take, sym, ap, ◌∙◌, length-append, arith}
+use Rattle.std.proofs.Common.{◌++◌, [], length, take, sym, ap, ◌∙◌, length-append, arith}
 use Rattle.std.proofs.lemmas.List.{flat_map_more, length-take, take_all}
 use Rattle.dispatch.specs.Choosing.{all_candidates, candidates}
 use Rattle.dispatch.specs.Slot.{tasks_in}

@@ -1,6 +1,5 @@
-use Rattle.std.proofs.Common.{◌≡◌, None, take, map, ap, sym, ◌∙◌}
+use Rattle.std.proofs.Common.{None, take, ap, sym, ◌∙◌}
 use Rattle.std.proofs.lemmas.List.{take_all}
-use Rattle.dispatch.specs.Candidate.{key}
 use Rattle.dispatch.specs.Choosing.{all_candidates, soonest}
 use Rattle.dispatch.specs.Table.{slots_in}
 use Rattle.dispatch.proofs.Gathering.{first_in_all, soonest_first}

@@ -1,8 +1,5 @@
-use Rattle.std.proofs.Common.{ap}
 use Rattle.few.specs.Few.{items}
-use Rattle.dispatch.specs.Table.{slot_shown}
 use Rattle.dispatch.proofs.Arriving.{opens, opens_in_time}
-use Rattle.runs.specs.State.{State}
 use Rattle.dispatch.proofs.table.Table.open.Goals as goal
 
 pub invariant_of-self : goal.invariant_of-self
