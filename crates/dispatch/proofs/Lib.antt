@@ -1,0 +1,5 @@
+pub mod Gathering
+pub mod First
+pub mod Sweep
+pub mod Turning
+pub mod Arriving
