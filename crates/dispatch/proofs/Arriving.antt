@@ -7,7 +7,8 @@ use Rattle.std.specs.List.{list_all}
 use Rattle.dispatch.specs.declared.phase.Phase.TheVariants.{Ready, Waiting}
 use Rattle.dispatch.specs.declared.slot.Slot.{Slot}
 use Rattle.dispatch.specs.declared.sub_task.SubTask.{SubTask}
-use Rattle.dispatch.specs.Opening.{bare, bare_job, opened_at, opened_in, replaced, sub_task}
+use Rattle.dispatch.specs.Bare.{bare, bare_job}
+use Rattle.dispatch.specs.Opening.{opened_at, opened_in, replaced, sub_task}
 use Rattle.dispatch.specs.Phase.{meaning}
 use Rattle.dispatch.specs.Slot.{in_time, phase_in_time, slot_in_time, tasks_in}
 use Rattle.dispatch.specs.Table.{shown, slot_shown}

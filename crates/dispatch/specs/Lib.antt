@@ -1,3 +1,5 @@
+pub mod Bare
+pub mod BareLaws
 pub mod Phase
 pub mod Slot
 pub mod Candidate

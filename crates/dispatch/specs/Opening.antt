@@ -1,24 +1,17 @@
 -- What an arrival opens.
---   bare p              the open sub-task p of a run over lists without the ticks that it began with, which the board does not keep
---   bare_job n          of a job its number alone
 --   sub_task w          the sub-task w, as a run over lists has it
 --   opened_at t w       the sub-task w of an arrival at t: it is ready where its offset is 0, else it waits
 --   opened_in n t ws s  the slot s of a run over lists after an arrival at t of the job with the number n that opens ws
 --   replaced f s        the slot f in the place of s, if it is of the same job
-use Rattle.std.specs.Prelude.{ℕ, ◌+◌, cond, ◌==◌, List, [], map}
+use Rattle.std.specs.Prelude.{ℕ, ◌+◌, cond, ◌==◌, List, map}
 use Rattle.dispatch.specs.declared.phase.Phase.TheVariants.{Ready, Waiting}
 use Rattle.dispatch.specs.declared.slot.Open.{Open}
 use Rattle.dispatch.specs.declared.slot.Slot.{Slot}
 use Rattle.dispatch.specs.declared.sub_task.SubTask.{SubTask}
+use Rattle.dispatch.specs.Bare.{bare}
 use Rattle.runs.specs.Events.{opened}
-use Rattle.runs.specs.Job.{Job, SubTask as ModelSubTask}
-use Rattle.runs.specs.State.{OpenTask, Slot as ModelSlot}
-
-abbrev pub bare : OpenTask → OpenTask
-bare p = record { task = record p.task { ticks = 0 }; phase = p.phase }
-
-abbrev pub bare_job : ℕ → Job
-bare_job n = record { number = n; period = 0; deadline = 0; branches = [] }
+use Rattle.runs.specs.Job.{SubTask as ModelSubTask}
+use Rattle.runs.specs.State.{Slot as ModelSlot}
 
 abbrev pub sub_task : SubTask → ModelSubTask
 sub_task w = record { node = w.node; engine = w.engine; offset = w.offset; deadline = w.deadline; ticks = w.ticks }

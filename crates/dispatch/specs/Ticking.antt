@@ -1,13 +1,14 @@
 -- What a tick does.
 --   masked m e          whether the bit of the engine e is set in the mask m
 --   keyed r             what ran, as a key; when it was due does not matter here
+--   is_named r t        whether t is what ran
 --   worked_by k j o     the open sub-task o of the job with the number j, as a run over lists has it, after the work of the tick k
 --   late_by k j o       whether its end comes with the tick, so that it becomes late
 --   turned k j o        o after the tick
 --   slot_turned k s     the slot s after the tick
 --   slot_late k s       how many of its open sub-tasks become late
 --   ran_on e b m        what runs on the engine e of the table b at a tick with the served mask m
-use Rattle.std.specs.Prelude.{ℕ, ◌+◌, Bool, true, cond, ◌==◌, nat_le, ◌++◌, count_by, drop, map, Option, None, slice_index_or}
+use Rattle.std.specs.Prelude.{ℕ, ◌+◌, Bool, true, false, cond, ◌==◌, nat_le, ◌++◌, count_by, drop, map, Option, Some, None, slice_index_or}
 use Rattle.std.specs.Int.{bit_at}
 use Rattle.std.specs.Option.{option_map}
 use Rattle.dispatch.specs.declared.candidate.Next.{Next}
@@ -19,9 +20,9 @@ use Rattle.dispatch.specs.Candidate.{named}
 use Rattle.dispatch.specs.Phase.{phase_by}
 use Rattle.dispatch.specs.Slot.{tasks_in}
 use Rattle.dispatch.specs.Table.{shown, tasks_open}
-use Rattle.runs.specs.Events.{advance, expired, overdue}
+use Rattle.runs.specs.Events.{advance, expired, overdue, same}
 use Rattle.runs.specs.Next.{Key, next}
-use Rattle.runs.specs.State.{OpenTask}
+use Rattle.runs.specs.State.{OpenTask, Task}
 
 abbrev pub masked : ℕ → ℕ → Bool
 masked m e = bit_at m e == 1
@@ -31,6 +32,10 @@ key_of n = record { due = 0; job = n.job; node = n.node }
 
 abbrev pub keyed : Option Next → Option Key
 keyed r = option_map key_of r
+
+abbrev pub is_named : Option Next → Task → Bool
+is_named None t = false
+is_named (Some n) t = same (key_of n) t
 
 abbrev pub worked_by : Tick → ℕ → Open → OpenTask
 worked_by k j o = advance (λ e. keyed (slice_index_or k.ran e None)) (λ _. true) (masked k.done) (shown j o)

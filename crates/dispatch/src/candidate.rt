@@ -36,9 +36,13 @@ impl Candidate {
     pub(crate) fn is_before(self, other: Candidate) -> bool
         ensures { result ≡ before (key self) (key other) }
     {
-        self.due < other.due
-            || self.due == other.due
-                && (self.job < other.job || self.job == other.job && self.node < other.node)
+        if self.due != other.due {
+            self.due < other.due
+        } else if self.job != other.job {
+            self.job < other.job
+        } else {
+            self.node < other.node
+        }
     }
 
     /// Whether it runs before what was found so far.

@@ -1,7 +1,8 @@
 //! What an arrival opens.
 ghost use Rattle.std.specs.Prelude.{◌≡◌, ◌<◌, ◌≤◌, length, map, slice_index_or};
 ghost use Rattle.dispatch.specs.declared.sub_task.SubTask.{SubTask};
-ghost use Rattle.dispatch.specs.Opening.{bare_job, opened_at, opened_in, replaced};
+ghost use Rattle.dispatch.specs.Bare.{bare_job};
+ghost use Rattle.dispatch.specs.Opening.{opened_at, opened_in, replaced};
 ghost use Rattle.dispatch.specs.Slot.{tasks_in};
 ghost use Rattle.dispatch.specs.Table.{state_of};
 ghost use Rattle.few.specs.Few.{items};

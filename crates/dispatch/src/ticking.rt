@@ -1,13 +1,14 @@
 //! One tick.
-ghost use Rattle.std.specs.Prelude.{◌≡◌, ◌↔◌, ℕ, ◌+◌, ◌*◌, ◌<◌, ◌≤◌, ◌++◌, true, None, drop, map, slice_index_or, take, sum_by, count_by, if◌then◌else◌, IfSome, OnSome, IsNone, IfNone};
+ghost use Rattle.std.specs.Prelude.{◌≡◌, ◌↔◌, ℕ, ◌+◌, ◌*◌, ◌<◌, ◌≤◌, ◌++◌, true, None, drop, map, slice_index_or, take, sum_by, count_by, if◌then◌else◌, ◌&&◌, nat_le, IfSome, OnSome, IsNone, IfNone};
 ghost use Rattle.std.specs.List.{list_all};
 ghost use Rattle.std.specs.Option.{option_map};
 ghost use Rattle.dispatch.specs.Candidate.{key, named};
-ghost use Rattle.dispatch.specs.Phase.{meaning};
+ghost use Rattle.dispatch.specs.Phase.{is_waiting, meaning};
 ghost use Rattle.dispatch.specs.Slot.{in_time, slot_in_time};
-ghost use Rattle.dispatch.specs.Table.{state_of};
-ghost use Rattle.dispatch.specs.Ticking.{late_by, masked, ran_on, slot_late, slot_turned, turned, worked_by};
+ghost use Rattle.dispatch.specs.Table.{shown, state_of};
+ghost use Rattle.dispatch.specs.Ticking.{is_named, late_by, masked, ran_on, slot_late, slot_turned, turned, worked_by};
 ghost use Rattle.runs.specs.Events.{step, tick};
+ghost use Rattle.runs.specs.State.{is_pending};
 
 use crate::candidate::{Candidate, Next};
 use crate::phase::Event;
@@ -16,7 +17,7 @@ use crate::table::{LAST, SLOTS, Table};
 use crate::tick::Tick;
 use engine::roster::ENGINES;
 use std::array;
-use task::node::NODES;
+use task::node::{NODES, Ticks};
 
 /// Whether the bit of the engine is set.
 fn is_set(mask: u16, engine: usize) -> bool
@@ -39,6 +40,28 @@ fn ran_by(served: u16, engine: usize, next: Option<Candidate>) -> Option<Next>
 }
 
 impl Open {
+    /// Whether its end comes with this clock while work is left.
+    fn is_overdue(&self, clock: Ticks) -> bool
+        ensures { result ≡ (is_pending (meaning self.now.phase) && nat_le self.now.due clock) }
+    {
+        self.phase.is_pending() && self.due <= clock
+    }
+
+    /// Whether it waits and its release comes with this clock.
+    fn is_released(&self, clock: Ticks) -> bool
+        ensures { result ≡ (is_waiting self.now.phase && nat_le self.now.release clock) }
+    {
+        self.phase.is_waiting() && self.release <= clock
+    }
+
+    /// Whether it is what ran on its engine.
+    fn has_run(&self, job: u32, tick: &Tick) -> bool
+        ensures { result ≡ is_named (slice_index_or tick.now.ran self.now.engine None) (shown job self.now).task }
+    {
+        let node = self.node;
+        tick.ran[self.engine] == Some(Next { job, node })
+    }
+
     /// Takes the work of the tick: a tick of it where it ran, and the report that it is done.
     fn work(&mut self, job: u32, tick: &Tick)
         requires { in_time tick.now.clock self.old ≡ true }
@@ -46,8 +69,7 @@ impl Open {
         ensures rest { self.new ≡ record self.old { phase = self.new.phase } }
         ensures in_time { in_time tick.now.clock self.new ≡ true }
     {
-        let node = self.node;
-        if tick.ran[self.engine] == Some(Next { job, node }) {
+        if self.has_run(job, tick) {
             self.phase.step(Event::Served);
             if is_set(tick.done, self.engine) {
                 self.phase.step(Event::Done);
@@ -63,10 +85,10 @@ impl Open {
     {
         self.work(job, tick);
         let clock = tick.clock + 1;
-        let is_late = self.phase.is_pending() && self.due <= clock;
+        let is_late = self.is_overdue(clock);
         if is_late {
             self.phase.step(Event::EndPassed);
-        } else if self.phase.is_waiting() && self.release <= clock {
+        } else if self.is_released(clock) {
             self.phase.step(Event::OffsetReached);
         }
         is_late
