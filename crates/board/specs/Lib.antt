@@ -5,3 +5,4 @@ pub mod Loading
 pub mod Residents
 pub mod Determined
 pub mod Sheets
+pub mod Unloading

@@ -8,3 +8,4 @@ pub mod placing;
 pub mod refusal;
 pub mod residents;
 pub mod sheets;
+pub mod unloading;

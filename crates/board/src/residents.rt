@@ -1,6 +1,6 @@
 //! The jobs of a board.
 ghost use Rattle.std.specs.Prelude.{◌≡◌, ◌<◌, ◌≤◌, ◌↔◌, ◌++◌, [], ◌∷◌, length, IsOk, OnOk, OnErr};
-ghost use Rattle.board.specs.Residents.{jobs};
+ghost use Rattle.board.specs.Residents.{jobs, others};
 
 use few::few::Few;
 use few::items::Full;
@@ -50,5 +50,18 @@ impl Residents {
                 Ok(())
             }
         }
+    }
+
+    /// The jobs whose number is another, in their order.
+    pub(crate) fn without(&self, number: u32) -> Residents
+        ensures { jobs result ≡ others (jobs self.now) number }
+    {
+        let mut left = Residents::new();
+        for resident in self.as_slice() {
+            if resident.number() != number {
+                left.add(resident).unwrap();
+            }
+        }
+        left
     }
 }
