@@ -100,14 +100,14 @@ some_from t j b q y (s ∷ slots) m = elim m [
   | inr n ↦ or_right (granted t j b s) _ (some_from t j b q y slots n)
 ]
 
-pub calls_granted : (t : ℕ) (todo : List Train) (st : State) → st.clock ≡ t → Apart (λ p. p.job.number) todo → AllByRecursion Fair todo
-    → AllByRecursion (λ p. Mem (cut t p) (map came st.slots)) todo → AllGranted st (flat_map (calls t) todo)
-calls_granted t [] st c a f m = tt
-calls_granted t (p ∷ todo) st c a f m = go (coming t p.arrivals) (turn p.job f.0.some_time p.arrivals t f.0.legal) (λ s d. calls_granted t todo s d a.1 f.1)
+pub calls_granted : (engines t : ℕ) (todo : List Train) (st : State) → st.clock ≡ t → Apart (λ p. p.job.number) todo → AllByRecursion Fair todo
+    → AllByRecursion (λ p. Mem (cut t p) (map came st.slots)) todo → AllGranted engines st (flat_map (calls t) todo)
+calls_granted engines t [] st c a f m = tt
+calls_granted engines t (p ∷ todo) st c a f m = go (coming t p.arrivals) (turn p.job f.0.some_time p.arrivals t f.0.legal) (λ s d. calls_granted engines t todo s d a.1 f.1)
   where
     go : (o : Option ℕ) → Turn p.job t (upto t p.arrivals) (upto (t + 1) p.arrivals) o
-        → ((s : State) → s.clock ≡ t → AllByRecursion (λ q. Mem (cut t q) (map came s.slots)) todo → AllGranted s (flat_map (calls t) todo))
-        → AllGranted st (calls_of p.job.number o ++ flat_map (calls t) todo)
+        → ((s : State) → s.clock ≡ t → AllByRecursion (λ q. Mem (cut t q) (map came s.slots)) todo → AllGranted engines s (flat_map (calls t) todo))
+        → AllGranted engines st (calls_of p.job.number o ++ flat_map (calls t) todo)
     go None (still e) rec = rec st c m.1
     go (Some b) (comes _ e free known) rec =
         let y : takes st.clock p.job.number b (cut t p) ≡ true

@@ -1,17 +1,19 @@
 -- Late when overloaded.
-use Rattle.std.proofs.Common.{◌≡◌, ℕ, ◌+◌, ◌-◌, ◌<◌, ◌≤◌, true, false, nat_lt, List, [], ◌∷◌, map, reverse, length, drop, sum_by, refl, sym, ap, ◌∙◌, subst, inl, inr, arith}
+use Rattle.std.proofs.Common.{◌≡◌, ℕ, ◌+◌, ◌-◌, ◌<◌, ◌≤◌, true, false, nat_lt, List, [], ◌∷◌, map, reverse, length, drop, sum_by, refl, sym, ap, ◌∙◌, subst, inl, inr, arith, zero, suc, ◌*◌, ◌%◌, ◌⊎◌}
 use Rattle.std.specs.List.{AllByRecursion}
-use Rattle.std.proofs.lemmas.Bool.{cases_lt, le-ltb, lt-ltb}
+use Rattle.std.proofs.lemmas.Bool.{cases_eq, cases_lt, le-ltb, lt-ltb}
 use Rattle.std.proofs.lemmas.List.Sums.{sum_by-cons}
-use Rattle.theory.specs.Pattern.{Arrival, demand_in, part}
+use Rattle.theory.specs.Pattern.{Arrival, demand_in, part, WellFormed}
 use Rattle.theory.specs.Demand.{demand}
-use Rattle.runs.specs.Job.{Apart, asked, Job, pattern_on, Sound}
-use Rattle.runs.specs.Events.{play, start}
-use Rattle.runs.specs.Runs.{masks, served_ticks}
-use Rattle.runs.proofs.Lists.{all_both, all_unmap}
+use Rattle.runs.specs.Job.{Apart, asked, Distinct, Job, pattern_on, Sound}
+use Rattle.runs.specs.Events.{Event, play, start}
+use Rattle.runs.specs.Runs.{Lawful, masks, Quiet, Run, served_ticks}
+use Rattle.runs.proofs.Lists.{all_both, all_map, all_unmap, all_weaker}
 use Rattle.runs.proofs.Sums.{sum_map, sum_same}
 use Rattle.runs.proofs.Arrivals.{arrivals_legal, branches_are, demand_reverse, Legal, well_formed}
 use Rattle.runs.proofs.Trains.{came, cut, Fair, Train, upto}
+use Rattle.std.proofs.Math.Nat.{mod-eq_of_lt}
+use Rattle.theory.proofs.Settles.{twice_settles_all}
 use Rattle.theory.proofs.Trains.{demand_is_met}
 use Rattle.theory.proofs.Windows.{best_at, best_short}
 use Rattle.runs.specs.Theorems.{LateWhenOverloaded}
@@ -64,24 +66,59 @@ met engines e x n (j ∷ jobs) sound soon =
       );
     }
 
--- a time that no deadline passes
-all_soon : (x : ℕ) (jobs : List Job) → sum_by (λ j. j.deadline) jobs ≤ x → AllByRecursion (λ j. j.deadline ≤ x) jobs
-all_soon x [] l = tt
-all_soon x (j ∷ jobs) l =
-    let here = sum_by-cons (λ (i : Job). i.deadline) j jobs in
-    (omega arith, all_soon x jobs (omega arith))
+-- a period that divides a belt cycle is no longer than it, and so is a deadline within
+soon : (engines : ℕ) (j : Job) → Sound engines j → j.deadline ≤ 14400
+soon engines j sound = elim (cases_lt 14400 j.period) [
+  | inl long ↦
+      let same : 14400 % j.period ≡ 14400 = mod-eq_of_lt long in
+      absurd (omega (arith, sound.divides))
+  | inr short ↦ omega (arith, sound.within_period)
+]
 
-pub late_when_overloaded : LateWhenOverloaded
-late_when_overloaded engines supply jobs laws sound distinct e n known over =
-    let x = sum_by (λ (j : Job). j.deadline) jobs in
+-- in some number of ticks up to r the engine e is overloaded, or in none
+abbrev Overloaded : (ℕ → ℕ → ℕ) → List Job → ℕ → ℕ → Type 0
+Overloaded supply jobs e r = (n : ℕ) × (n ≤ r) × (supply e n < asked e jobs n)
+
+overloaded_or_not : (supply : ℕ → ℕ → ℕ) (jobs : List Job) (e r : ℕ) → Overloaded supply jobs e r ⊎ ((n : ℕ) → n ≤ r → asked e jobs n ≤ supply e n)
+overloaded_or_not supply jobs e zero = elim (cases_lt (supply e 0) (asked e jobs 0)) [
+  | inl over ↦ inl (0, omega arith, over)
+  | inr fits ↦ inr (λ n l. let z : n ≡ 0 = omega arith in rw z fits)
+]
+overloaded_or_not supply jobs e (suc r) = elim (cases_lt (supply e (suc r)) (asked e jobs (suc r))) [
+  | inl over ↦ inl (suc r, omega arith, over)
+  | inr fits ↦ elim (overloaded_or_not supply jobs e r) [
+    | inl f ↦ inl (f.0, omega (arith, f.1), f.2)
+    | inr all ↦ inr (λ n l. elim (cases_eq n (suc r)) [ inl q ↦ rw q fits | inr ne ↦ all n (omega arith) ])
+  ]
+]
+
+-- an engine that is overloaded is so within two belt cycles
+within_two_cycles : (engines : ℕ) (supply : ℕ → ℕ → ℕ) (jobs : List Job) (e : ℕ) → Lawful (supply e) → AllByRecursion (Sound engines) jobs
+    → (n : ℕ) → supply e n < asked e jobs n → Overloaded supply jobs e (2 * 14400)
+within_two_cycles engines supply jobs e law sound n over = elim (overloaded_or_not supply jobs e (2 * 14400)) [
+  | inl f ↦ f
+  | inr all ↦
+      let formed = all_map WellFormed (pattern_on e) jobs (all_weaker (Sound engines) (λ j. WellFormed (pattern_on e j)) (λ j s. well_formed engines e j s) jobs sound) in
+      let divide = all_map (λ p. 14400 % p.period ≡ 0) (pattern_on e) jobs (all_weaker (Sound engines) (λ j. 14400 % j.period ≡ 0) (λ j s. s.divides) jobs sound) in
+      absurd (omega (arith, twice_settles_all 14400 (omega arith) (map (pattern_on e) jobs) formed divide (supply e) law.joins (λ k some few. all k few) n))
+]
+
+-- the run from a belt cycle on, which no deadline passes
+late_within :
+    (engines : ℕ) (supply : ℕ → ℕ → ℕ) (jobs : List Job)
+    → ((e : ℕ) → e < engines → Lawful (supply e)) → AllByRecursion (Sound engines) jobs → Distinct jobs
+    → (e n : ℕ) → e < engines → n ≤ 2 * 14400 → supply e n < asked e jobs n
+    → (events : List Event) × Run engines supply jobs events × AllByRecursion Quiet events × (1 ≤ (play (start jobs) events).lates)
+late_within engines supply jobs laws sound distinct e n known few over =
+    let x : ℕ = 14400 in
     let y = x + n in
-    let w = met engines e x n jobs sound (all_soon x jobs (omega arith)) in
+    let w = met engines e x n jobs sound (all_weaker (Sound engines) (λ j. j.deadline ≤ x) (soon engines) jobs sound) in
     let ps = w.trains in
-    let es = story supply x ps y in
+    let es = story engines supply x ps y in
     let each_sound = all_unmap (Sound engines) (λ (p : Train). p.job) ps (subst (AllByRecursion (Sound engines)) (sym w.jobs_are) sound) in
     let apart = apart_map (λ (j : Job). j.number) (λ (p : Train). p.job) ps (subst (Apart (λ j. j.number)) (sym w.jobs_are) distinct.numbers) in
     let fair = all_both (λ p. Legal p.job p.arrivals) (λ p. Sound engines p.job) Fair (λ p l s. record { legal = l; some_time = omega (arith, s.within_period, s.some_time) }) ps w.legal each_sound in
-    let i = story_at supply x jobs ps w.jobs_are apart fair y in
+    let i = story_at engines supply x jobs ps w.jobs_are apart fair y (omega arith) in
     let st = play (start jobs) es in
     let cuts = sum_same (λ p. asks_of e x y p ≡ asks_of e x y (cut y p)) (asks_of e x y) (λ p. asks_of e x y (cut y p)) (λ p h. h) ps
     (all_both (λ p. Legal p.job p.arrivals) (λ p. Sound engines p.job) (λ p. asks_of e x y p ≡ asks_of e x y (cut y p))
@@ -90,13 +127,18 @@ late_when_overloaded engines supply jobs laws sound distinct e n known over =
     = ap (λ k. asked_so_far e x k st) i.clock_is
     ∙ (sym (sum_map (asks_of e x y) came st.slots)
     ∙ (ap (sum_by (asks_of e x y)) i.trains_are ∙ (sum_map (asks_of e x y) (cut y) ps ∙ sym cuts))) in
-    let served = story_served supply x ps e (laws e known) x y (omega arith) in
+    let served = story_served engines supply x ps e known (laws e known) x y (omega arith) in
     let a : x - x ≡ 0 = omega arith in
     let b : y - x ≡ n = omega arith in
     let none = (laws e known).none in
     let short : served_ticks e (drop x (masks es)) < asked_so_far e x st.clock st = omega (arith, w.reached, ap (supply e) a, ap (supply e) b) in (
       es,
-      record { all_granted = i.all_granted; supplied = story_supplied supply x ps engines laws y },
-      story_silent supply x ps y,
-      overload_is_late engines jobs es sound distinct (story_silent supply x ps y) e x short,
+      record { all_granted = i.all_granted; supplied = story_supplied engines supply x ps laws y },
+      story_silent engines supply x ps y,
+      overload_is_late engines jobs es sound distinct (story_silent engines supply x ps y) e x short,
     )
+
+pub late_when_overloaded : LateWhenOverloaded
+late_when_overloaded engines supply jobs laws sound distinct e n known over =
+    let (m, few, short) = within_two_cycles engines supply jobs e (laws e known) sound n over in
+    late_within engines supply jobs laws sound distinct e m known few short

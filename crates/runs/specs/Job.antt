@@ -2,7 +2,7 @@
 --   SubTask               the node, the engine, the window counted from an arrival, and the ticks
 --   Job                   a number, a period, a deadline, and for each branch the sub-tasks that it reaches
 --   SoundTask engines d s the engine is one of so many, the window opens before it closes and closes by d, and there is some work
---   Sound engines j       the deadline is at least 1 and at most the period, there is a branch, and every sub-task is sound
+--   Sound engines j       the period divides a belt cycle, the deadline is at least 1 and at most the period, there is a branch, and every sub-task is sound
 --   branch_of j b         the sub-tasks of the branch b
 --   on_engine e s         whether the sub-task is placed on the engine e
 --   window_of s           its window
@@ -12,7 +12,7 @@
 --   AllFit engines supply jobs    so it is on every engine
 --   Apart key xs          no two on the list have the same key
 --   Distinct jobs         no two jobs have the same number, and no two sub-tasks of a branch the same node
-use Rattle.std.specs.Prelude.{ℕ, ◌<◌, ◌≤◌, Bool, ◌==◌, List, [], ◌∷◌, length, map, filter, slice_index_or, ◌≢◌}
+use Rattle.std.specs.Prelude.{ℕ, ◌<◌, ◌≤◌, Bool, ◌≡◌, ◌%◌, ◌==◌, List, [], ◌∷◌, length, map, filter, slice_index_or, ◌≢◌}
 use Rattle.std.specs.List.{AllByRecursion}
 use Rattle.theory.specs.Demand.{demand_of_all}
 use Rattle.theory.specs.Pattern.{Pattern, Window}
@@ -37,6 +37,7 @@ pub record SoundTask (engines d : ℕ) (s : SubTask) : Type 0 where
   pub some_work : 1 ≤ s.ticks
 
 pub record Sound (engines : ℕ) (j : Job) : Type 0 where
+  pub divides : 14400 % j.period ≡ 0
   pub some_time : 1 ≤ j.deadline
   pub within_period : j.deadline ≤ j.period
   pub some_branch : 0 < length j.branches

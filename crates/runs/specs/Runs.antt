@@ -2,10 +2,10 @@
 --   masks events                   the served masks of the ticks, in order
 --   served_ticks e ms              in how many of the ticks the engine e is served
 --   Supplied engines supply ms     in every n ticks in a row each engine is served at least its supply
---   Granted st event               an arrival is granted by a slot
---   AllGranted st events           each arrival is, where it comes
+--   Granted engines st event       an arrival is granted by a slot; a tick that names no engine beyond those that there are is, as long as the clock has not come to its end
+--   AllGranted engines st events   each event is granted, where it comes
 --   Quiet event                    no engine reports that its sub-task is done
---   Run engines supply jobs events    from the start of these jobs all arrivals are granted, and every engine is served at least its supply
+--   Run engines supply jobs events    from the start of these jobs all events are granted, and every engine is served at least its supply
 --   OnTime st                      nothing is late, and nothing waits or is replaced that is not finished
 --   Lawful s                       what a supply keeps: none in no ticks, in one more tick the same or one more, and in two stretches no more than in both in a row
 use Rattle.std.specs.Prelude.{◌≡◌, ℕ, ◌+◌, ◌<◌, ◌≤◌, Bool, true, false, List, [], ◌∷◌, length, take, drop, count_by}
@@ -26,20 +26,20 @@ served_ticks e ms = count_by (λ m. m e) ms
 abbrev pub Supplied : ℕ → (ℕ → ℕ → ℕ) → List (ℕ → Bool) → Type 0
 Supplied engines supply ms = (e x n : ℕ) → e < engines → x + n ≤ length ms → supply e n ≤ served_ticks e (take n (drop x ms))
 
-abbrev pub Granted : State → Event → Type 0
-Granted st (arrive j b) = list_any (granted st.clock j b) st.slots ≡ true
-Granted st (tick served done) = Unit {0}
+abbrev pub Granted : ℕ → State → Event → Type 0
+Granted engines st (arrive j b) = list_any (granted st.clock j b) st.slots ≡ true
+Granted engines st (tick served done) = (st.clock < 2000000000) × ((e : ℕ) → engines ≤ e → (served e ≡ false) × (done e ≡ false))
 
-abbrev pub AllGranted : State → List Event → Type 0
-AllGranted st [] = Unit {0}
-AllGranted st (e ∷ es) = Granted st e × AllGranted (step st e) es
+abbrev pub AllGranted : ℕ → State → List Event → Type 0
+AllGranted engines st [] = Unit {0}
+AllGranted engines st (e ∷ es) = Granted engines st e × AllGranted engines (step st e) es
 
 abbrev pub Quiet : Event → Type 0
 Quiet (arrive j b) = Unit {0}
 Quiet (tick served done) = (e : ℕ) → done e ≡ false
 
 pub record Run (engines : ℕ) (supply : ℕ → ℕ → ℕ) (jobs : List Job) (events : List Event) : Type 0 where
-  pub all_granted : AllGranted (start jobs) events
+  pub all_granted : AllGranted engines (start jobs) events
   pub supplied : Supplied engines supply (masks events)
 
 pub record OnTime (st : State) : Type 0 where
