@@ -1,0 +1,4 @@
+pub mod Standing
+pub mod Refusing
+pub mod Answered
+pub mod Lives

@@ -1,0 +1,50 @@
+-- The whole life of a board.
+--   NeverLate rules s               a board that runs as s says, where each engine was served at least its supply so far, has had nothing late, and what is ready waits for nothing that is open
+--   RefusedExactly rules s call a   a job that some choice makes possible, whose number is free and for which there is room, is refused for want of a place exactly if under every possible choice every placement has a late run
+--   Promised rules s entry t        the call is answered by the rules, and keeps both promises
+--   Lives rules s history t         so does every call of the history, on a board that stands as s before it and as t after it
+use Rattle.std.specs.Prelude.{◌≡◌, ◌↔◌, List, [], ◌∷◌, length}
+use Rattle.board.specs.declared.refusal.Refusal.TheVariants.{NoPlacement}
+use Rattle.board.specs.Loading.{Comes, SomePossible}
+use Rattle.board.specs.Placing.{Rules}
+use Rattle.life.specs.declared.call.Answer.{Answer}
+use Rattle.life.specs.declared.call.Answer.TheVariants.{Refused}
+use Rattle.life.specs.declared.call.Call.{Call}
+use Rattle.life.specs.declared.call.Call.TheVariants.{Arrive, Load, Start, Stop, Tick, Unload}
+use Rattle.life.specs.declared.call.Entry.{Entry}
+use Rattle.life.specs.Answered.{Answered}
+use Rattle.life.specs.Standing.{running, Standing, state_of, stopped, total_of}
+use Rattle.resident.specs.declared.resident.Resident.{Resident}
+use Rattle.runs.specs.Events.{Event}
+use Rattle.runs.specs.Runs.{masks, OnTime, Supplied}
+use Rattle.seated.specs.Placement.{MustRefuse}
+use Rattle.seated.specs.Waits.{InOrder}
+use Rattle.task.specs.declared.job.Job.{Job}
+
+pub record AllInTime (rs : List Resident) (events : List Event) : Type 0 where
+  pub on_time : OnTime (state_of rs events)
+  pub in_order : InOrder rs (state_of rs events)
+
+abbrev pub NeverLate : Rules → Standing → Type 0
+NeverLate rules (stopped rs l) = Unit {0}
+NeverLate rules (running rs l events) = Supplied (length rules.tags) rules.supply (masks events) → AllInTime rs events
+
+abbrev pub RefusedExactly : Rules → Standing → Call → Answer → Type 0
+RefusedExactly rules (stopped rs l) (Load text) a = (j : Job) → Comes text.now rs j → SomePossible j → (a ≡ Refused NoPlacement) ↔ MustRefuse rules rs j
+RefusedExactly rules (stopped rs l) (Unload n) a = Unit {0}
+RefusedExactly rules (stopped rs l) Start a = Unit {0}
+RefusedExactly rules (stopped rs l) (Arrive n b) a = Unit {0}
+RefusedExactly rules (stopped rs l) (Tick served done) a = Unit {0}
+RefusedExactly rules (stopped rs l) Stop a = Unit {0}
+RefusedExactly rules (running rs l es) call a = Unit {0}
+
+pub record Promised (rules : Rules) (s : Standing) (entry : Entry) (t : Standing) : Type 0 where
+  pub answered : Answered rules s entry.call entry.answer t
+  pub late_total : entry.late_total ≡ total_of t
+  pub never_late : NeverLate rules t
+  pub refused_exactly : RefusedExactly rules s entry.call entry.answer
+
+pub data Lives (rules : Rules) : Standing → List Entry → Standing → Type 0 where
+  ends : {s : Standing} → Lives rules s [] s
+  goes_on : {s t u : Standing} {entry : Entry} {history : List Entry}
+      → Promised rules s entry t → Lives rules t history u → Lives rules s (entry ∷ history) u

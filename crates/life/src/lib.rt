@@ -1,0 +1,4 @@
+//! The whole life of a board: any list of calls on a new one, and what comes of each.
+#![tactic(auto)]
+
+pub mod call;
