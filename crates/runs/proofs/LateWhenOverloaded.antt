@@ -5,7 +5,7 @@ use Rattle.std.proofs.lemmas.Bool.{cases_eq, cases_lt, le-ltb, lt-ltb}
 use Rattle.std.proofs.lemmas.List.Sums.{sum_by-cons}
 use Rattle.theory.specs.Pattern.{Arrival, demand_in, part, WellFormed}
 use Rattle.theory.specs.Demand.{demand}
-use Rattle.runs.specs.Job.{Apart, asked, Distinct, Job, pattern_on, Sound}
+use Rattle.runs.specs.Job.{Apart, asked, Distinct, Fits, Job, pattern_on, Sound}
 use Rattle.runs.specs.Events.{Event, play, start}
 use Rattle.runs.specs.Runs.{Lawful, masks, Quiet, Run, served_ticks}
 use Rattle.runs.proofs.Lists.{all_both, all_map, all_unmap, all_weaker}
@@ -76,7 +76,7 @@ soon engines j sound = elim (cases_lt 14400 j.period) [
 ]
 
 -- in some number of ticks up to r the engine e is overloaded, or in none
-abbrev Overloaded : (ℕ → ℕ → ℕ) → List Job → ℕ → ℕ → Type 0
+abbrev pub Overloaded : (ℕ → ℕ → ℕ) → List Job → ℕ → ℕ → Type 0
 Overloaded supply jobs e r = (n : ℕ) × (n ≤ r) × (supply e n < asked e jobs n)
 
 overloaded_or_not : (supply : ℕ → ℕ → ℕ) (jobs : List Job) (e r : ℕ) → Overloaded supply jobs e r ⊎ ((n : ℕ) → n ≤ r → asked e jobs n ≤ supply e n)
@@ -92,15 +92,15 @@ overloaded_or_not supply jobs e (suc r) = elim (cases_lt (supply e (suc r)) (ask
   ]
 ]
 
--- an engine that is overloaded is so within two belt cycles
-within_two_cycles : (engines : ℕ) (supply : ℕ → ℕ → ℕ) (jobs : List Job) (e : ℕ) → Lawful (supply e) → AllByRecursion (Sound engines) jobs
-    → (n : ℕ) → supply e n < asked e jobs n → Overloaded supply jobs e (2 * 14400)
-within_two_cycles engines supply jobs e law sound n over = elim (overloaded_or_not supply jobs e (2 * 14400)) [
-  | inl f ↦ f
+-- the jobs fit on an engine, or ask too much of it in some number of ticks within two belt cycles
+pub fits_or_overloaded : (engines : ℕ) (supply : ℕ → ℕ → ℕ) (jobs : List Job) (e : ℕ) → Lawful (supply e) → AllByRecursion (Sound engines) jobs
+    → Fits supply jobs e ⊎ Overloaded supply jobs e (2 * 14400)
+fits_or_overloaded engines supply jobs e law sound = elim (overloaded_or_not supply jobs e (2 * 14400)) [
+  | inl f ↦ inr f
   | inr all ↦
       let formed = all_map WellFormed (pattern_on e) jobs (all_weaker (Sound engines) (λ j. WellFormed (pattern_on e j)) (λ j s. well_formed engines e j s) jobs sound) in
       let divide = all_map (λ p. 14400 % p.period ≡ 0) (pattern_on e) jobs (all_weaker (Sound engines) (λ j. 14400 % j.period ≡ 0) (λ j s. s.divides) jobs sound) in
-      absurd (omega (arith, twice_settles_all 14400 (omega arith) (map (pattern_on e) jobs) formed divide (supply e) law.joins (λ k some few. all k few) n))
+      inl (twice_settles_all 14400 (omega arith) (map (pattern_on e) jobs) formed divide (supply e) law.joins (λ k some few. all k few))
 ]
 
 -- the run from a belt cycle on, which no deadline passes
@@ -139,6 +139,7 @@ late_within engines supply jobs laws sound distinct e n known few over =
     )
 
 pub late_when_overloaded : LateWhenOverloaded
-late_when_overloaded engines supply jobs laws sound distinct e n known over =
-    let (m, few, short) = within_two_cycles engines supply jobs e (laws e known) sound n over in
-    late_within engines supply jobs laws sound distinct e m known few short
+late_when_overloaded engines supply jobs laws sound distinct e n known over = elim (fits_or_overloaded engines supply jobs e (laws e known) sound) [
+  | inl fits ↦ absurd (omega (arith, fits n))
+  | inr f ↦ late_within engines supply jobs laws sound distinct e f.0 known f.1 f.2
+]
