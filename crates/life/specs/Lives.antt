@@ -1,9 +1,10 @@
 -- The whole life of a board.
 --   NeverLate rules s               a board that runs as s says, where each engine was served at least its supply so far, has had nothing late, and what is ready waits for nothing that is open
---   RefusedExactly rules s call a   a job that some choice makes possible, whose number is free and for which there is room, is refused for want of a place exactly if under every possible choice every placement has a late run
+--   AllLate rules rs text           under every possible choice of the job of the text, every placement beside the residents rs has a run in which something is late
+--   RefusedExactly rules s call a   a text that passes the questions before the last one of loading is refused by that one exactly if all its placements have a late run
 --   Promised rules s entry t        the call is answered by the rules, and keeps both promises
 --   Lives rules s history t         so does every call of the history, on a board that stands as s before it and as t after it
-use Rattle.std.specs.Prelude.{◌≡◌, ◌↔◌, List, [], ◌∷◌, length}
+use Rattle.std.specs.Prelude.{◌≡◌, ◌↔◌, ℕ, List, [], ◌∷◌, length}
 use Rattle.board.specs.declared.refusal.Refusal.TheVariants.{NoPlacement}
 use Rattle.board.specs.Loading.{Comes, SomePossible}
 use Rattle.board.specs.Placing.{Rules}
@@ -20,6 +21,7 @@ use Rattle.runs.specs.Runs.{masks, OnTime, Supplied}
 use Rattle.seated.specs.Placement.{MustRefuse}
 use Rattle.seated.specs.Waits.{InOrder}
 use Rattle.task.specs.declared.job.Job.{Job}
+use Rattle.text.specs.JobText.{Reads}
 
 pub record AllInTime (rs : List Resident) (events : List Event) : Type 0 where
   pub on_time : OnTime (state_of rs events)
@@ -29,8 +31,11 @@ abbrev pub NeverLate : Rules → Standing → Type 0
 NeverLate rules (stopped rs l) = Unit {0}
 NeverLate rules (running rs l events) = Supplied (length rules.tags) rules.supply (masks events) → AllInTime rs events
 
+abbrev pub AllLate : Rules → List Resident → List ℕ → Type 0
+AllLate rules rs text = (j : Job) → Reads text j → MustRefuse rules rs j
+
 abbrev pub RefusedExactly : Rules → Standing → Call → Answer → Type 0
-RefusedExactly rules (stopped rs l) (Load text) a = (j : Job) → Comes text.now rs j → SomePossible j → (a ≡ Refused NoPlacement) ↔ MustRefuse rules rs j
+RefusedExactly rules (stopped rs l) (Load text) a = (j : Job) → Comes text.now rs j → SomePossible j → (a ≡ Refused NoPlacement) ↔ AllLate rules rs text.now
 RefusedExactly rules (stopped rs l) (Unload n) a = Unit {0}
 RefusedExactly rules (stopped rs l) Start a = Unit {0}
 RefusedExactly rules (stopped rs l) (Arrive n b) a = Unit {0}
