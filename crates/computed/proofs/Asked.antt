@@ -64,7 +64,7 @@ tasks_one p ws s t tests same (suc n) =
 branch_one : (ts : List Task) (a b : List Bool) → ((v : ℕ) → get_or a v false ≡ get_or b v false) → branch_of ts a ≡ branch_of ts b
 branch_one ts a b same = ap (λ (f : Task → Bool). map window_of (filter f ts)) (fun_ext (λ (t : Task). same t.node))
 
-map_one : {X Y : Type 0} (f : X → Y) (xs ys : List X) (d : X) → length xs ≡ length ys → ((k : ℕ) → k < length xs → f (get_or xs k d) ≡ f (get_or ys k d)) → map f xs ≡ map f ys
+pub map_one : {X Y : Type 0} (f : X → Y) (xs ys : List X) (d : X) → length xs ≡ length ys → ((k : ℕ) → k < length xs → f (get_or xs k d) ≡ f (get_or ys k d)) → map f xs ≡ map f ys
 map_one f xs ys d long same =
     ext_get_or (f d) (map f xs) (map f ys) (length-map xs f ∙ long ∙ sym (length-map ys f)) (λ k low.
     let inside : k < length xs = omega (arith, length-map xs f) in

@@ -1,2 +1,4 @@
 pub mod Questions
 pub mod Promises
+pub mod Same
+pub mod Moving
