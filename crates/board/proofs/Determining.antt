@@ -118,7 +118,7 @@ asked_in f e (s ∷ ss) = let rec = asked_in f e ss in elim (cases_Bool (eqb s.e
 ]
 
 module _ (r q : Resident) (seats : tellings r ≡ tellings q) where
-  engines_one : (g : ℕ) → engine_of r g ≡ engine_of q g
+  pub engines_one : (g : ℕ) → engine_of r g ≡ engine_of q g
   engines_one g = among_in (items r.seats) g ∙ ap (λ xs. engine_in xs g) seats ∙ sym (among_in (items q.seats) g)
 
   asked_one : ((g : ℕ) → part_pattern r.plan g ≡ part_pattern q.plan g) → (e : ℕ) → asked_by r e ≡ asked_by q e
