@@ -7,7 +7,7 @@ use Rattle.std.proofs.lemmas.Bool.{cases_Bool, cases_eq, cases_lt, eqb-true}
 use Rattle.std.proofs.lemmas.List.Elements.{All-head, All-tail}
 use Rattle.std.proofs.lemmas.Option.{same_Some}
 use Rattle.board.specs.declared.refusal.Refusal.{Refusal}
-use Rattle.board.specs.declared.refusal.Refusal.TheVariants.{Fault, NumberTaken, BoardFull, NoChoice, NoPlacement, NotResident, ShortBuffer}
+use Rattle.board.specs.declared.refusal.Refusal.TheVariants.{Fault, NumberTaken, BoardFull, NoChoice, NoPlacement, NotResident, NoBranch, TooSoon, NoEngine, LastClock, ShortBuffer}
 use Rattle.board.specs.Asked.{asked_by, loads}
 use Rattle.board.specs.Determined.{Alike, Complete, LoadDetermined, SameJob}
 use Rattle.board.specs.Loading.{Free, IsLoaded, LoadRefused, SomePossible}
@@ -209,6 +209,10 @@ module _ (rules : Rules) (complete : Complete rules) (rs : List Resident) where
         let low = subst (λ (ns : List Node). r.plan.choice < numbers Choice ns) (sym same.its_nodes) a.places.is_choice in
         placed_can r.plan.job b.0 same r.plan.choice r a.places.possible a.places.placed (b.3 r.plan.choice low)
     loaded_not_refused r NotResident a b = b
+    loaded_not_refused r NoBranch a b = b
+    loaded_not_refused r TooSoon a b = b
+    loaded_not_refused r NoEngine a b = b
+    loaded_not_refused r LastClock a b = b
     loaded_not_refused r ShortBuffer a b = b
 
     one_refusal : (f g : Refusal) → LoadRefused rules rs text f → LoadRefused rules rs text g → f ≡ g
@@ -218,6 +222,10 @@ module _ (rules : Rules) (complete : Complete rules) (rs : List Resident) where
     one_refusal (Fault f) NoChoice a b = absurd (refused_unread text f a b.0 b.1.reads)
     one_refusal (Fault f) NoPlacement a b = absurd (refused_unread text f a b.0 b.1.reads)
     one_refusal (Fault f) NotResident a b = absurd b
+    one_refusal (Fault f) NoBranch a b = absurd b
+    one_refusal (Fault f) TooSoon a b = absurd b
+    one_refusal (Fault f) NoEngine a b = absurd b
+    one_refusal (Fault f) LastClock a b = absurd b
     one_refusal (Fault f) ShortBuffer a b = absurd b
     one_refusal NumberTaken (Fault g) a b = absurd (refused_unread text g b a.0 a.1)
     one_refusal NumberTaken NumberTaken a b = refl
@@ -225,6 +233,10 @@ module _ (rules : Rules) (complete : Complete rules) (rs : List Resident) where
     one_refusal NumberTaken NoChoice a b = absurd (a.2 (free_same b.0 a.0 b.1.reads a.1 b.1.free))
     one_refusal NumberTaken NoPlacement a b = absurd (a.2 (free_same b.0 a.0 b.1.reads a.1 b.1.free))
     one_refusal NumberTaken NotResident a b = absurd b
+    one_refusal NumberTaken NoBranch a b = absurd b
+    one_refusal NumberTaken TooSoon a b = absurd b
+    one_refusal NumberTaken NoEngine a b = absurd b
+    one_refusal NumberTaken LastClock a b = absurd b
     one_refusal NumberTaken ShortBuffer a b = absurd b
     one_refusal BoardFull (Fault g) a b = absurd (refused_unread text g b a.0 a.1)
     one_refusal BoardFull NumberTaken a b = absurd (b.2 (free_same a.0 b.0 a.1 b.1 a.2))
@@ -232,6 +244,10 @@ module _ (rules : Rules) (complete : Complete rules) (rs : List Resident) where
     one_refusal BoardFull NoChoice a b = absurd (omega (arith, a.3, b.1.room))
     one_refusal BoardFull NoPlacement a b = absurd (omega (arith, a.3, b.1.room))
     one_refusal BoardFull NotResident a b = absurd b
+    one_refusal BoardFull NoBranch a b = absurd b
+    one_refusal BoardFull TooSoon a b = absurd b
+    one_refusal BoardFull NoEngine a b = absurd b
+    one_refusal BoardFull LastClock a b = absurd b
     one_refusal BoardFull ShortBuffer a b = absurd b
     one_refusal NoChoice (Fault g) a b = absurd (refused_unread text g b a.0 a.1.reads)
     one_refusal NoChoice NumberTaken a b = absurd (b.2 (free_same a.0 b.0 a.1.reads b.1 a.1.free))
@@ -239,6 +255,10 @@ module _ (rules : Rules) (complete : Complete rules) (rs : List Resident) where
     one_refusal NoChoice NoChoice a b = refl
     one_refusal NoChoice NoPlacement a b = absurd (a.2 (some_same b.0 a.0 b.1.reads a.1.reads b.2))
     one_refusal NoChoice NotResident a b = absurd b
+    one_refusal NoChoice NoBranch a b = absurd b
+    one_refusal NoChoice TooSoon a b = absurd b
+    one_refusal NoChoice NoEngine a b = absurd b
+    one_refusal NoChoice LastClock a b = absurd b
     one_refusal NoChoice ShortBuffer a b = absurd b
     one_refusal NoPlacement (Fault g) a b = absurd (refused_unread text g b a.0 a.1.reads)
     one_refusal NoPlacement NumberTaken a b = absurd (b.2 (free_same a.0 b.0 a.1.reads b.1 a.1.free))
@@ -246,8 +266,16 @@ module _ (rules : Rules) (complete : Complete rules) (rs : List Resident) where
     one_refusal NoPlacement NoChoice a b = absurd (b.2 (some_same a.0 b.0 a.1.reads b.1.reads a.2))
     one_refusal NoPlacement NoPlacement a b = refl
     one_refusal NoPlacement NotResident a b = absurd b
+    one_refusal NoPlacement NoBranch a b = absurd b
+    one_refusal NoPlacement TooSoon a b = absurd b
+    one_refusal NoPlacement NoEngine a b = absurd b
+    one_refusal NoPlacement LastClock a b = absurd b
     one_refusal NoPlacement ShortBuffer a b = absurd b
     one_refusal NotResident g a b = absurd a
+    one_refusal NoBranch g a b = absurd a
+    one_refusal TooSoon g a b = absurd a
+    one_refusal NoEngine g a b = absurd a
+    one_refusal LastClock g a b = absurd a
     one_refusal ShortBuffer g a b = absurd a
 
 pub load_determined : LoadDetermined

@@ -8,7 +8,8 @@ use Rattle.std.proofs.lemmas.List.Sums.{sum_by-cons, sum_by-append}
 use Rattle.few.specs.declared.few.Few.{Few}
 use Rattle.few.specs.Few.{items}
 use Rattle.board.specs.declared.residents.Residents.{Residents}
-use Rattle.board.specs.Residents.{jobs, listed}
+use Rattle.board.specs.Listed.{listed}
+use Rattle.board.specs.Residents.{jobs}
 use Rattle.std.proofs.lemmas.List.{length-take}
 use Rattle.board.specs.Asked.{asked_by, asked_on, load_of, load_on}
 use Rattle.board.proofs.Asking.{is_on, seats_few}

@@ -8,7 +8,7 @@
 use Rattle.std.specs.Prelude.{◌≡◌, ℕ, ◌<◌, ◌≤◌, ◌≢◌, List, [], ◌∷◌, ◌++◌, length}
 use Rattle.std.specs.List.{All}
 use Rattle.board.specs.declared.refusal.Refusal.{Refusal}
-use Rattle.board.specs.declared.refusal.Refusal.TheVariants.{Fault, NumberTaken, BoardFull, NoChoice, NoPlacement, NotResident, ShortBuffer}
+use Rattle.board.specs.declared.refusal.Refusal.TheVariants.{Fault, NumberTaken, BoardFull, NoChoice, NoPlacement, NotResident, NoBranch, TooSoon, NoEngine, LastClock, ShortBuffer}
 use Rattle.board.specs.Placing.{CannotBePlaced, Places, Rules, tellings}
 use Rattle.resident.specs.declared.resident.Resident.{Resident}
 use Rattle.resident.specs.Resident.{number_of}
@@ -48,4 +48,8 @@ LoadRefused rules rs text BoardFull = (j : Job) × Reads text j × Free rs j.num
 LoadRefused rules rs text NoChoice = (j : Job) × Comes text rs j × (SomePossible j → ⊥)
 LoadRefused rules rs text NoPlacement = (j : Job) × Comes text rs j × SomePossible j × ((c : ℕ) → c < numbers Choice (graph j) → CannotBePlaced rules rs j c)
 LoadRefused rules rs text NotResident = ⊥
+LoadRefused rules rs text NoBranch = ⊥
+LoadRefused rules rs text TooSoon = ⊥
+LoadRefused rules rs text NoEngine = ⊥
+LoadRefused rules rs text LastClock = ⊥
 LoadRefused rules rs text ShortBuffer = ⊥

@@ -4,7 +4,7 @@
 --   refusal_text r      both, with a comma between them
 use Rattle.std.specs.Prelude.{ℕ, List, ◌∷◌, ◌++◌, decimal}
 use Rattle.board.specs.declared.refusal.Refusal.{Refusal}
-use Rattle.board.specs.declared.refusal.Refusal.TheVariants.{Fault, NumberTaken, BoardFull, NoChoice, NoPlacement, NotResident, ShortBuffer}
+use Rattle.board.specs.declared.refusal.Refusal.TheVariants.{Fault, NumberTaken, BoardFull, NoChoice, NoPlacement, NotResident, NoBranch, TooSoon, NoEngine, LastClock, ShortBuffer}
 use Rattle.text.specs.Fault.{number_of, place_of}
 
 abbrev pub refusal_number : Refusal → ℕ
@@ -14,6 +14,10 @@ refusal_number BoardFull = 8
 refusal_number NoChoice = 9
 refusal_number NoPlacement = 10
 refusal_number NotResident = 11
+refusal_number NoBranch = 12
+refusal_number TooSoon = 13
+refusal_number NoEngine = 14
+refusal_number LastClock = 15
 refusal_number ShortBuffer = 16
 
 abbrev pub refusal_place : Refusal → ℕ
@@ -23,6 +27,10 @@ refusal_place BoardFull = 0
 refusal_place NoChoice = 0
 refusal_place NoPlacement = 0
 refusal_place NotResident = 0
+refusal_place NoBranch = 0
+refusal_place TooSoon = 0
+refusal_place NoEngine = 0
+refusal_place LastClock = 0
 refusal_place ShortBuffer = 0
 
 abbrev pub refusal_text : Refusal → List ℕ

@@ -2,17 +2,12 @@
 --   jobs rs             the jobs, the first loaded first
 --   resident_of rs n    the first of the residents rs with the number n, if there is one
 --   others rs n         the residents rs whose number is not n, in their order
-use Rattle.std.specs.Prelude.{ℕ, List, [], filter, not, Option, Some, None, ◌==◌}
+use Rattle.std.specs.Prelude.{ℕ, List, filter, not, Option, ◌==◌}
 use Rattle.std.specs.List.{find}
 use Rattle.board.specs.declared.residents.Residents.{Residents}
-use Rattle.few.specs.declared.few.Few.{Few}
-use Rattle.few.specs.Few.{items}
+use Rattle.board.specs.Listed.{listed}
 use Rattle.resident.specs.declared.resident.Resident.{Resident}
 use Rattle.resident.specs.Resident.{number_of}
-
-abbrev pub listed : Option (Few Resident 16) → List Resident
-listed None = []
-listed (Some rs) = items rs
 
 abbrev pub jobs : Residents → List Resident
 jobs rs = listed rs.kept

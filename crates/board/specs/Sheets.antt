@@ -3,7 +3,7 @@
 --   SheetRefused rs number old f        the first question that asking for the sheet fails is that of f
 use Rattle.std.specs.Prelude.{◌≡◌, ℕ, ◌<◌, List, ◌++◌, length, drop, Some, None}
 use Rattle.board.specs.declared.refusal.Refusal.{Refusal}
-use Rattle.board.specs.declared.refusal.Refusal.TheVariants.{Fault, NumberTaken, BoardFull, NoChoice, NoPlacement, NotResident, ShortBuffer}
+use Rattle.board.specs.declared.refusal.Refusal.TheVariants.{Fault, NumberTaken, BoardFull, NoChoice, NoPlacement, NotResident, NoBranch, TooSoon, NoEngine, LastClock, ShortBuffer}
 use Rattle.board.specs.Residents.{resident_of}
 use Rattle.resident.specs.declared.resident.Resident.{Resident}
 use Rattle.sheet.specs.Sheet.{sheet_of}
@@ -21,4 +21,8 @@ SheetRefused rs number old BoardFull = ⊥
 SheetRefused rs number old NoChoice = ⊥
 SheetRefused rs number old NoPlacement = ⊥
 SheetRefused rs number old NotResident = resident_of rs number ≡ None
+SheetRefused rs number old NoBranch = ⊥
+SheetRefused rs number old TooSoon = ⊥
+SheetRefused rs number old NoEngine = ⊥
+SheetRefused rs number old LastClock = ⊥
 SheetRefused rs number old ShortBuffer = (job : Resident) × (resident_of rs number ≡ Some job) × (length old < length (sheet_of job))

@@ -26,4 +26,11 @@ impl<P, R, O> Board<P, R, O> {
             residents: Residents::new(),
         }
     }
+
+    /// Its platform.
+    pub fn platform(&self) -> &P
+        ensures { result.now ≡ self.now.platform }
+    {
+        &self.platform
+    }
 }

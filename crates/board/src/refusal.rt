@@ -22,6 +22,14 @@ pub enum Refusal {
     NoPlacement,
     /// No job of the board has the number.
     NotResident,
+    /// The job has no branch with the number.
+    NoBranch,
+    /// The job's last arrival is less than its period ago.
+    TooSoon,
+    /// A mask names an engine that does not exist.
+    NoEngine,
+    /// The clock is at its last.
+    LastClock,
     /// The buffer is shorter than the sheet.
     ShortBuffer,
 }
@@ -38,6 +46,10 @@ impl Refusal {
             Refusal::NoChoice => 9,
             Refusal::NoPlacement => 10,
             Refusal::NotResident => 11,
+            Refusal::NoBranch => 12,
+            Refusal::TooSoon => 13,
+            Refusal::NoEngine => 14,
+            Refusal::LastClock => 15,
             Refusal::ShortBuffer => 16,
         }
     }

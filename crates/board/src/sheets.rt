@@ -1,5 +1,5 @@
 //! The jobs of a board, and their sheets.
-ghost use Rattle.std.specs.Prelude.{◌≡◌, IfErr, IfOk};
+ghost use Rattle.std.specs.Prelude.{◌≡◌, ◌≤◌, length, IfErr, IfOk};
 ghost use Rattle.board.specs.Residents.{jobs, resident_of};
 ghost use Rattle.board.specs.Sheets.{SheetRefused, SheetWritten};
 ghost use Rattle.std.specs.Option.{option_map};
@@ -10,6 +10,14 @@ use resident::resident::Resident;
 use sheet::sheet::{Short, write_sheet};
 
 impl<P, R, O> Board<P, R, O> {
+    /// Its jobs, the first loaded first.
+    pub fn residents(&self) -> &[Resident]
+        ensures jobs { result.now ≡ jobs self.now.residents }
+        ensures few { length result.now ≤ 16 }
+    {
+        self.residents.as_slice()
+    }
+
     /// The job with the number.
     pub fn resident(&self, number: u32) -> Option<&Resident>
         ensures { option_map (λ r. r.now) result ≡ resident_of (jobs self.now.residents) number }

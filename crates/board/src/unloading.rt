@@ -5,6 +5,22 @@ ghost use Rattle.board.specs.Unloading.{UnloadRefused};
 
 use crate::board::Board;
 use crate::refusal::Refusal;
+use crate::residents::Residents;
+
+impl Residents {
+    /// The jobs whose number is another, in their order.
+    fn without(&self, number: u32) -> Residents
+        ensures { jobs result ≡ others (jobs self.now) number }
+    {
+        let mut left = Residents::new();
+        for resident in self.as_slice() {
+            if resident.number() != number {
+                left.add(resident).unwrap();
+            }
+        }
+        left
+    }
+}
 
 impl<P, R, O> Board<P, R, O> {
     /// Takes the job with the number off the board; the others stay where they are.

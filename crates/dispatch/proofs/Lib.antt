@@ -3,3 +3,4 @@ pub mod First
 pub mod Sweep
 pub mod Turning
 pub mod Arriving
+pub mod LastArrival

@@ -1,5 +1,5 @@
 -- What a tick does to a slot and to the table, as a run over lists has it.
-use Rattle.std.proofs.Common.{◌≡◌, ℕ, ◌+◌, ◌<◌, ◌≤◌, Bool, true, false, cond, List, [], ◌∷◌, ◌++◌, get_or, take, drop, map, sum_by, count_by, Option, Some, None, nat_le, refl, sym, ap, ◌∙◌, inl, inr, arith}
+use Rattle.std.proofs.Common.{◌≡◌, ℕ, ◌+◌, ◌<◌, ◌≤◌, Bool, true, false, cond, List, [], ◌∷◌, ◌++◌, get_or, take, drop, map, sum_by, count_by, Option, Some, None, nat_le, refl, ap, ◌∙◌, inl, inr, arith}
 use Rattle.std.proofs.Math.Bridge.{le_prop}
 use Rattle.std.proofs.lemmas.Bool.{cases_Bool}
 use Rattle.std.proofs.lemmas.Bool.Decides.{nat_tests}
@@ -20,8 +20,8 @@ use Rattle.runs.specs.Next.{Key, next}
 use Rattle.runs.specs.State.{each, finished, in_phase, late, OpenTask, pending, Phase as Model, tasks_of}
 use Rattle.runs.proofs.Sums.{bit}
 
-pub slot_same : (s : Slot) (ts us : List Open) (few : s.len ≤ 24) → ts ≡ us → ◌≡◌ {A = Slot} (record { job = s.job; tasks = ts; len = s.len; few = few }) (record s { tasks = us })
-slot_same s ts us few is = λ i. record { job = s.job; tasks = is i; len = s.len; few = le_prop few s.few i }
+pub slot_same : (s : Slot) (ts us : List Open) (few : s.len ≤ 24) → ts ≡ us → ◌≡◌ {A = Slot} (record { job = s.job; last = s.last; tasks = ts; len = s.len; few = few }) (record s { tasks = us })
+slot_same s ts us few is = λ i. record { job = s.job; last = s.last; tasks = is i; len = s.len; few = le_prop few s.few i }
 
 -- what ran is what is next on the served engines
 serve_same : (o : Option Key) (served done : Bool) (p : OpenTask) → serve (keyed (cond served (option_map named o) None)) true done p ≡ serve o served done p
@@ -61,7 +61,7 @@ module _ (k : Tick) (m : ℕ) (choice : ℕ → Option Key) (ran_is : (e : ℕ) 
   all_shown j (o ∷ os) = rw (shown_turned j o) (ap (λ l. after_end (after_work (shown j o)) ∷ l) (all_shown j os))
 
   slot_after : (s : Slot) → slot_shown (slot_turned k s) ≡ each after_end (each after_work (slot_shown s))
-  slot_after s = ap (λ ts. record { job = (slot_shown s).job; arrivals = []; tasks = ts }) (ap (map (shown s.job)) (take_kept (turned k s.job) s.len s.tasks) ∙ all_shown s.job (tasks_in s))
+  slot_after s = ap (λ ts. record { job = (slot_shown s).job; arrivals = (slot_shown s).arrivals; tasks = ts }) (ap (map (shown s.job)) (take_kept (turned k s.job) s.len s.tasks) ∙ all_shown s.job (tasks_in s))
 
   pub slots_after : (ss : List Slot) → map slot_shown (map (slot_turned k) ss) ≡ map (each after_end) (map (each after_work) (map slot_shown ss))
   slots_after [] = refl
@@ -103,11 +103,11 @@ module _ (k : Tick) (len : ℕ) (xs ys : List Slot) (after : ys ≡ map (slot_tu
   pub still_in_time : list_all (slot_in_time (k.clock + 1)) (take len ys) ≡ true
   still_in_time = ap (list_all (slot_in_time (k.clock + 1))) first_slots ∙ slots_in_time k (take len xs)
 
-  pub steps_are : (m n : ℕ) → ((e : ℕ) → e < 16 → get_or k.ran e None ≡ cond (masked m e) (option_map named (next e k.clock (tasks_of (map slot_shown (take len xs))))) None) → n ≡ sum_by (slot_late k) (take len xs)
-      → step (record { clock = k.clock; slots = map slot_shown (take len xs); lates = 0 }) (tick (masked m) (masked k.done)) ≡ record { clock = k.clock + 1; slots = map slot_shown (take len ys); lates = n }
-  steps_are m n ran_is late_is =
+  pub steps_are : (m total n : ℕ) → ((e : ℕ) → e < 16 → get_or k.ran e None ≡ cond (masked m e) (option_map named (next e k.clock (tasks_of (map slot_shown (take len xs))))) None) → n ≡ sum_by (slot_late k) (take len xs)
+      → record { clock = k.clock + 1; slots = map slot_shown (take len ys); lates = total + n } ≡ step (record { clock = k.clock; slots = map slot_shown (take len xs); lates = total }) (tick (masked m) (masked k.done))
+  steps_are m total n ran_is late_is =
       let ss = take len xs in
       let choice : ℕ → Option Key = λ e. next e k.clock (tasks_of (map slot_shown ss)) in
-      let slots = sym (ap (map slot_shown) first_slots ∙ slots_after k m choice ran_is ss) in
-      let lates : 0 + count_by (overdue (k.clock + 1)) (tasks_of (map (each (after_work k m choice ran_is)) (map slot_shown ss))) ≡ n = omega (arith, late_after k m choice ran_is ss, late_is) in
+      let slots = ap (map slot_shown) first_slots ∙ slots_after k m choice ran_is ss in
+      let lates : total + n ≡ total + count_by (overdue (k.clock + 1)) (tasks_of (map (each (after_work k m choice ran_is)) (map slot_shown ss))) = omega (arith, late_after k m choice ran_is ss, late_is) in
       λ i. record { clock = k.clock + 1; slots = slots i; lates = lates i }

@@ -1,5 +1,5 @@
-pub mod Bare
-pub mod BareLaws
+pub mod Kept
+pub mod KeptLaws
 pub mod Phase
 pub mod Slot
 pub mod Candidate

@@ -1,6 +1,7 @@
 //! Which sub-tasks run: the open sub-tasks of a board that runs, in place, and what a tick does to them.
 #![tactic(auto)]
 
+pub mod asking;
 pub mod candidate;
 pub mod choosing;
 pub mod opening;

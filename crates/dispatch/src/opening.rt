@@ -1,10 +1,9 @@
 //! What an arrival opens.
-ghost use Rattle.std.specs.Prelude.{◌≡◌, ◌<◌, ◌≤◌, length, map, slice_index_or};
+ghost use Rattle.std.specs.Prelude.{◌≡◌, ◌<◌, ◌≤◌, Some, length, map, slice_index_or};
 ghost use Rattle.dispatch.specs.declared.sub_task.SubTask.{SubTask};
-ghost use Rattle.dispatch.specs.Bare.{bare_job};
+ghost use Rattle.dispatch.specs.Table.{numbered, state_of};
 ghost use Rattle.dispatch.specs.Opening.{opened_at, opened_in, replaced};
 ghost use Rattle.dispatch.specs.Slot.{tasks_in};
-ghost use Rattle.dispatch.specs.Table.{state_of};
 ghost use Rattle.few.specs.Few.{items};
 ghost use Rattle.runs.specs.Events.{start};
 
@@ -52,11 +51,13 @@ impl Slot {
     fn opened(job: u32, tasks: &Few<SubTask, NODES>, clock: Ticks) -> Slot
         requires { clock ≤ 2000000000 }
         ensures job { result.job ≡ job }
+        ensures last { result.last ≡ Some clock }
         ensures tasks { tasks_in result ≡ map (opened_at clock) (items tasks.now) }
     {
         let opened = tasks.as_slice();
         Slot {
             job,
+            last: Some(clock),
             tasks: array::from_fn(|place| opened_or_blank(opened, place, clock)),
             len: tasks.len(),
         }
@@ -77,13 +78,15 @@ fn replace(slots: &mut [Slot], fresh: &Slot)
 impl Table {
     /// The table of a board that begins to run, before any arrival, for the jobs with these numbers.
     pub fn start(jobs: &Few<u32, SLOTS>) -> Table
-        ensures { state_of result ≡ start (map bare_job (items jobs.now)) }
+        ensures { state_of result ≡ start (map numbered (items jobs.now)) }
     {
         let numbers = jobs.as_slice();
         Table {
             clock: 0,
+            late_total: 0,
             slots: array::from_fn(|place| Slot {
                 job: numbers.get(place).copied().unwrap_or(0),
+                last: None,
                 tasks: [BLANK; NODES],
                 len: 0,
             }),
@@ -91,7 +94,7 @@ impl Table {
         }
     }
 
-    /// Opens the sub-tasks of an arrival of the job; they take the place of those that its last arrival opened.
+    /// Notes an arrival of the job and opens its sub-tasks; they take the place of those that its last arrival opened.
     pub fn open(&mut self, job: u32, tasks: &Few<SubTask, NODES>)
         ensures { state_of self.new ≡ record (state_of self.old) { slots = map (opened_in job self.old.clock (items tasks.now)) (state_of self.old).slots } }
     {

@@ -15,10 +15,11 @@ pub struct Open {
     ghost placed: { engine < 16 },
 }
 
-/// A job, and the sub-tasks that its last arrival opened: they lie in the first `len` places.
+/// A job, when it arrived last since the start, and the sub-tasks that this arrival opened: they lie in the first `len` places.
 #[derive(Debug, Clone, Copy, PartialEq, Eq)]
 pub struct Slot {
     pub(crate) job: u32,
+    pub(crate) last: Option<Ticks>,
     pub(crate) tasks: [Open; NODES],
     pub(crate) len: usize,
     ghost few: { len ≤ 24 },

@@ -129,6 +129,7 @@ fn turn_slots(slots: &mut [Slot; SLOTS], len: usize, tick: &Tick) -> u32
     requires in_time { list_all (slot_in_time tick.now.clock) (take len slots.old) ≡ true }
     ensures after { slots.new ≡ map (slot_turned tick.now) (take len slots.old) ++ drop len slots.old }
     ensures late { result ≡ sum_by (slot_late tick.now) (take len slots.old) }
+    ensures few { result ≤ 384 }
 {
     let mut late = 0;
     for slot in slots[..len].iter_mut() {
@@ -146,9 +147,10 @@ impl Table {
         array::from_fn(|engine| ran_by(served, engine, firsts[engine]))
     }
 
-    /// Takes a tick: each served engine runs its next sub-task, which has then a tick less, and is finished where none is left or its engine reports that it is done; then the clock rises, and what is open when its end has come is late. It writes what ran on each engine, and answers how many sub-tasks became late; nothing, and nothing changes, where the clock has no tick left.
+    /// Takes a tick: each served engine runs its next sub-task, which has then a tick less, and is finished where none is left or its engine reports that it is done; then the clock rises, and what is open when its end has come is late, and is counted. It writes what ran on each engine, and answers how many sub-tasks became late; nothing, and nothing changes, where the clock has no tick left.
     pub fn tick(&mut self, served: u16, done: u16, ran: &mut [Option<Next>; ENGINES]) -> Option<u32>
-        ensures steps { IfSome result (λ late. step (state_of self.old) (tick (masked served) (masked done)) ≡ record (state_of self.new) { lates = late }) }
+        ensures steps { OnSome result (state_of self.new ≡ step (state_of self.old) (tick (masked served) (masked done))) }
+        ensures late { IfSome result (λ late. self.new.late_total ≡ self.old.late_total + late) }
         ensures ran { OnSome result ((e : ℕ) → e < 16 → slice_index_or ran.new e None ≡ ran_on e self.old served) }
         ensures at_end { IsNone result ↔ (self.old.clock ≡ 2000000000) }
         ensures refused { IfNone result (self.new ≡ self.old) }
@@ -165,6 +167,7 @@ impl Table {
         *ran = tick.ran;
         let late = turn_slots(&mut self.slots, self.len, &tick);
         self.clock += 1;
+        self.late_total += u64::from(late);
         Some(late)
     }
 }

@@ -2,9 +2,9 @@
 --   all_tags         the tags that there are
 --   has_part p g     the plan p has a sub-task of the tag g
 --   parts_of p       the tags of its parts, by rising number
---   Fair p s         the seat s states what the part of its tag asks, at most a belt cycle's ticks in each
+--   Fair p s         the seat s states what the part of its tag asks, at most a belt cycle's ticks in each, and its engine is one of 16
 --   Seated p ss      so does each of the seats ss
-use Rattle.std.specs.Prelude.{ℕ, ◌*◌, ◌/◌, ◌≤◌, Bool, true, false, List, [], ◌∷◌, filter}
+use Rattle.std.specs.Prelude.{ℕ, ◌*◌, ◌/◌, ◌<◌, ◌≤◌, Bool, true, false, List, [], ◌∷◌, filter}
 use Rattle.std.specs.List.{All}
 use Rattle.claim.specs.Claim.{Claims}
 use Rattle.plan.specs.declared.part.Task.{Task}
@@ -29,6 +29,7 @@ parts_of p = filter (λ g. has_part p g) all_tags
 pub record Fair (p : Plan) (s : Seat) : Type 0 where
   pub claims : Claims (part_pattern p s.tag) s.claim
   pub paced : s.claim.whole * (14400 / s.claim.period) ≤ 14400
+  pub placed : s.engine < 16
 
 abbrev pub Seated : Plan → List Seat → Type 0
 Seated p ss = All (Fair p) ss

@@ -2,7 +2,7 @@
 use Rattle.std.proofs.Common.{◌≡◌, ℕ, ◌<◌, ◌≤◌, true, List, length, refl, sym, ap, ◌∙◌, subst, arith}
 use Rattle.std.specs.Prelude.{Some}
 use Rattle.board.specs.declared.refusal.Refusal.{Refusal}
-use Rattle.board.specs.declared.refusal.Refusal.TheVariants.{Fault, NumberTaken, BoardFull, NoChoice, NoPlacement, NotResident, ShortBuffer}
+use Rattle.board.specs.declared.refusal.Refusal.TheVariants.{Fault, NumberTaken, BoardFull, NoChoice, NoPlacement, NotResident, NoBranch, TooSoon, NoEngine, LastClock, ShortBuffer}
 use Rattle.board.specs.Loading.{Free, IsLoaded, LoadRefused}
 use Rattle.board.specs.Placing.{FitsOn, Rules}
 use Rattle.board.specs.Refusal.{refusal_number}
@@ -71,6 +71,10 @@ module _ (rules : Rules) (rs : List Resident) (text : List ℕ) (n t d : ℕ) (n
         ) in
         stuck.nowhere e there (subst (FitsOn rules.supply rs e) (sym same) fits)
     placed_by c is_choice short takes NotResident bad = bad
+    placed_by c is_choice short takes NoBranch bad = bad
+    placed_by c is_choice short takes TooSoon bad = bad
+    placed_by c is_choice short takes NoEngine bad = bad
+    placed_by c is_choice short takes LastClock bad = bad
     placed_by c is_choice short takes ShortBuffer bad = bad
 
     module _ (complete : Complete rules.listing) where
@@ -97,6 +101,10 @@ module _ (rules : Rules) (rs : List Resident) (text : List ℕ) (n t d : ℕ) (n
         only NoChoice (j, comes, none) = absurd (none (c, omega (arith, numbers_told j comes.reads), is_possible n t d ns j (told j comes.reads) c short))
         only NoPlacement bad = refl
         only NotResident bad = absurd bad
+        only NoBranch bad = absurd bad
+        only TooSoon bad = absurd bad
+        only NoEngine bad = absurd bad
+        only LastClock bad = absurd bad
         only ShortBuffer bad = absurd bad
 
       pub refused_by_9 : ((c : ℕ) → c < numbers Choice ns → d < span_of ns c) → Gets rules rs text 9
@@ -116,4 +124,8 @@ module _ (rules : Rules) (rs : List Resident) (text : List ℕ) (n t d : ℕ) (n
         only NoPlacement (j, comes, (c, is_choice, possible), _) =
             absurd (omega (arith, long c (omega (arith, numbers_told j comes.reads)), possible_short n t d ns j (told j comes.reads) c possible))
         only NotResident bad = absurd bad
+        only NoBranch bad = absurd bad
+        only TooSoon bad = absurd bad
+        only NoEngine bad = absurd bad
+        only LastClock bad = absurd bad
         only ShortBuffer bad = absurd bad

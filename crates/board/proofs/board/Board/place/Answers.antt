@@ -88,6 +88,9 @@ tags-preserved g c =
     let was = items c.tags.seats in
     let inv = c.tags.invariant in
     let states = part_states plan tag claim c.in-Some-of.ensures.1 in
+    let tags = g.P.Roster.tags me.platform in
+    let low =
+    listed_low tags tag (g.O.EngineOrder.listing me.order [] tags tag c.loads-loads.result) (g.P.Roster.rostered me.platform) (g.O.EngineOrder.complete me.order [] tags tag c.loads-loads.result) c.loop-place.place c.in-Some-place.engine (sym c.place.ensures ∙ c.in-Some-place.is) in
     let seat : Seat = record { tag = tag; engine = c.in-Some-place.engine; claim = claim } in
     let pushed : items c.push.new.self ≡ items c.loop-place.seats ++ seat ∷ [] = search rules in
     let put : items c.push.new.self ≡ was ++ seat ∷ [] = pushed ∙ ap (λ ss. ss ++ seat ∷ []) c.loop-place.invariant.0 in
@@ -99,6 +102,7 @@ tags-preserved g c =
       subst (All (Fair plan)) (sym put) (all_push (Fair plan) was seat inv.1 (record {
         claims = c.in-Some-of.ensures.1;
         paced = c.shortage.ensures.paced (part_pattern plan tag) states none;
+        placed = low;
       })),
       subst (All (Sits ruled rs plan)) (sym put) (all_push (Sits ruled rs plan) was seat inv.2 (record {
         place = c.loop-place.place;

@@ -1,0 +1,48 @@
+-- The numbers of a board's jobs are apart.
+use Rattle.std.proofs.Common.{◌≡◌, ◌≢◌, ℕ, false, List, [], ◌∷◌, ◌++◌, map, Option, nat_eq, Result, Ok, Err, OnErr, OnOk, Some, refl, sym, ap, subst, ◌∙◌}
+use Rattle.std.specs.List.{IsDistinct, list_any}
+use Rattle.std.proofs.lemmas.Bool.{ne_eqb}
+use Rattle.std.proofs.lemmas.List.{map-append}
+use Rattle.std.proofs.lemmas.List.Elements.{All-head, All-tail}
+use Rattle.std.proofs.lemmas.Map.Keys.{IsDistinct-prop, IsDistinct-push}
+use Rattle.std.proofs.lemmas.Cmp.{nat_eq_equiv}
+use Rattle.few.specs.declared.few.Few.{Few}
+use Rattle.few.specs.declared.items.Full.{Full}
+use Rattle.few.specs.Few.{items}
+use Rattle.board.specs.declared.residents.Residents.{Residents}
+use Rattle.board.specs.Listed.{listed}
+use Rattle.board.specs.Loading.{Free}
+use Rattle.resident.specs.declared.resident.Resident.{Resident}
+use Rattle.resident.specs.Resident.{number_of}
+
+none_has : (n : ℕ) (rs : List Resident) → Free rs n → list_any (nat_eq n) (map number_of rs) ≡ false
+none_has n [] free = refl
+none_has n (r ∷ rs) free =
+    rw (ne_eqb n (number_of r) (λ is. All-head (λ (x : Resident). number_of x ≢ n) r rs free (sym is))) (none_has n rs (All-tail (λ (x : Resident). number_of x ≢ n) r rs free))
+
+pub none_apart : IsDistinct nat_eq []
+unfolding IsDistinct
+none_apart = tt
+
+-- one more job, with a number that no other has
+pub still_apart : (rs qs : List Resident) (r : Resident) → IsDistinct nat_eq (map number_of rs) → Free rs (number_of r) → qs ≡ rs ++ r ∷ [] → IsDistinct nat_eq (map number_of qs)
+still_apart rs qs r apart free is =
+    subst (IsDistinct nat_eq) (sym (ap (map number_of) is ∙ map-append number_of rs (r ∷ []))) (IsDistinct-push nat_eq_equiv (map number_of rs) (number_of r) apart (none_has (number_of r) rs free))
+
+-- a list to which a job was added, or which had no place left
+pub added_apart : (o : Result (Unit {0}) Full) (old new : Few Resident 16) (r : Resident) → IsDistinct nat_eq (map number_of (items old)) → Free (items old) (number_of r) → OnOk o (items new ≡ items old ++ r ∷ []) → OnErr o (new ≡ old) → IsDistinct nat_eq (map number_of (items new))
+added_apart (Ok v) old new r apart free put full = still_apart (items old) (items new) r apart free put
+added_apart (Err e) old new r apart free put full = subst (λ (f : Few Resident 16). IsDistinct nat_eq (map number_of (items f))) (sym full) apart
+
+abbrev kept_as : (k : Option (Few Resident 16)) → IsDistinct nat_eq (map number_of (listed k)) → Residents
+kept_as k a = record { kept = k; apart = a }
+
+-- the same jobs
+same_kept : (k l : Option (Few Resident 16)) → k ≡ l → (a : IsDistinct nat_eq (map number_of (listed k))) (b : IsDistinct nat_eq (map number_of (listed l))) → kept_as k a ≡ kept_as l b
+same_kept k l is a b =
+    subst (λ (m : Option (Few Resident 16)). (c : IsDistinct nat_eq (map number_of (listed m))) → kept_as k a ≡ kept_as m c) is
+    (λ c. ap (kept_as k) (IsDistinct-prop nat_eq (map number_of (listed k)) a c)) b
+
+pub same_when_full : (o : Result (Unit {0}) Full) (old new : Few Resident 16) (rs : Residents) (a : IsDistinct nat_eq (map number_of (items new))) → rs.kept ≡ Some old → OnErr o (new ≡ old) → OnErr o (◌≡◌ {A = Residents} (record { kept = Some new; apart = a }) rs)
+same_when_full (Ok v) old new rs a was full = full
+same_when_full (Err e) old new rs a was full = same_kept (Some new) rs.kept (ap Some full ∙ sym was) a rs.apart
