@@ -1,9 +1,9 @@
 -- The numbers of a board's jobs are apart.
-use Rattle.std.proofs.Common.{◌≡◌, ◌≢◌, ℕ, false, List, [], ◌∷◌, ◌++◌, map, Option, nat_eq, Result, Ok, Err, OnErr, OnOk, Some, refl, sym, ap, subst, ◌∙◌}
-use Rattle.std.specs.List.{IsDistinct, list_any}
-use Rattle.std.proofs.lemmas.Bool.{ne_eqb}
+use Rattle.std.proofs.Common.{◌≡◌, ◌≢◌, ℕ, zero, suc, ◌<◌, Bool, true, false, arith, length, take, get_or, List, [], ◌∷◌, ◌++◌, map, Option, nat_eq, Result, Ok, Err, OnErr, OnOk, Some, refl, sym, ap, subst, ◌∙◌}
+use Rattle.std.specs.List.{AllByRecursion, IsDistinct, list_any}
+use Rattle.std.proofs.lemmas.Bool.{eq-eqb, ne_eqb}
 use Rattle.std.proofs.lemmas.List.{map-append}
-use Rattle.std.proofs.lemmas.List.Elements.{All-head, All-tail}
+use Rattle.std.proofs.lemmas.List.Elements.{All-cons, All-head, All-nil, All-tail}
 use Rattle.std.proofs.lemmas.Map.Keys.{IsDistinct-prop, IsDistinct-push}
 use Rattle.std.proofs.lemmas.Cmp.{nat_eq_equiv}
 use Rattle.few.specs.declared.few.Few.{Few}
@@ -46,3 +46,16 @@ same_kept k l is a b =
 pub same_when_full : (o : Result (Unit {0}) Full) (old new : Few Resident 16) (rs : Residents) (a : IsDistinct nat_eq (map number_of (items new))) → rs.kept ≡ Some old → OnErr o (new ≡ old) → OnErr o (◌≡◌ {A = Residents} (record { kept = Some new; apart = a }) rs)
 same_when_full (Ok v) old new rs a was full = full
 same_when_full (Err e) old new rs a was full = same_kept (Some new) rs.kept (ap Some full ∙ sym was) a rs.apart
+
+differ : (x : ℕ) (rs : List Resident) → AllByRecursion (λ y. nat_eq x y ≡ false) (map number_of rs) → (i : ℕ) (d : Resident) → i < length rs → x ≢ number_of (get_or rs i d)
+differ x [] all i d low is = omega arith
+differ x (r ∷ rs) all zero d low is = let z : ◌≡◌ {A = Bool} false true = sym all.0 ∙ eq-eqb x (number_of r) is in cc
+differ x (r ∷ rs) all (suc i) d low is = differ x rs all.1 i d (omega arith) is
+
+-- those before a job have another number
+pub before_apart : (rs : List Resident) → IsDistinct nat_eq (map number_of rs) → (i : ℕ) (d : Resident) → i < length rs → Free (take i rs) (number_of (get_or rs i d))
+unfolding IsDistinct
+before_apart [] apart i d low = absurd (omega arith)
+before_apart (r ∷ rs) apart zero d low = All-nil (λ (x : Resident). number_of x ≢ number_of r)
+before_apart (r ∷ rs) apart (suc i) d low =
+    All-cons (λ (x : Resident). number_of x ≢ number_of (get_or rs i d)) r (take i rs) (differ (number_of r) rs apart.0 i d (omega arith)) (before_apart rs apart.1 i d (omega arith))
