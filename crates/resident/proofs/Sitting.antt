@@ -28,7 +28,7 @@ some_behind [] y = refl
 some_behind (x ∷ xs) y = refl
 
 -- one node that passes is enough
-some_below : (p : Plan) (t : ℕ → Bool) (n v : ℕ) → v < n → t v ≡ true → some_task (tasks_below p t n) ≡ true
+pub some_below : (p : Plan) (t : ℕ → Bool) (n v : ℕ) → v < n → t v ≡ true → some_task (tasks_below p t n) ≡ true
 some_below p t zero v low yes' = absurd (omega arith)
 some_below p t (suc n) v low yes' = elim (cases_eq v n) [
   | inl same ↦ let here = ap t (sym same) ∙ yes' in rw here (some_behind (tasks_below p t n) (task_at p n))
@@ -53,7 +53,7 @@ every_part_sits r g few has =
     let seated = ap (list_any test) r.parts ∙ kept ∙ is_a_tag g few in
     sits_among (items r.seats) g seated
 
-tag_few : (n : Node) (g : ℕ) → numbers_fit n ≡ true → tagged g n ≡ true → g ≤ 7
+pub tag_few : (n : Node) (g : ℕ) → numbers_fit n ≡ true → tagged g n ≡ true → g ≤ 7
 tag_few (SubTask tag work nodes) g fit is =
     omega (arith, eqb-true tag g is, leb-true tag 7 (and_parts (leb tag 7) (leb 1 work && leb work 14400) fit).0)
 tag_few (Alternative nodes) g fit is = absurd (let z : ◌≡◌ {A = Bool} false true = is in cc)

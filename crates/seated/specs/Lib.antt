@@ -1,3 +1,4 @@
 pub mod Jobs
+pub mod Lasting
 pub mod Placement
 pub mod Waits
