@@ -1,3 +1,5 @@
 pub mod Lists
 pub mod Patterns
 pub mod Seats
+pub mod Asking
+pub mod Lasting
