@@ -3,3 +3,4 @@ pub mod Patterns
 pub mod Seats
 pub mod Asking
 pub mod Lasting
+pub mod Sounding

@@ -45,7 +45,7 @@ none_below p (suc n) = append-nil (tasks_below p (λ _. false) n) ∙ none_below
 abbrev sits_on : Plan → (ℕ → ℕ) → ℕ → Task → Bool
 sits_on p f e t = nat_eq (f (tag_at (at (nodes_of p) t.node))) e
 
-abbrev member_where : Plan → (Node → Bool) → ℕ → Bool
+abbrev pub member_where : Plan → (Node → Bool) → ℕ → Bool
 member_where p t v = get_or p.members v false && t (at (nodes_of p) v)
 
 module _ (p : Plan) (f : ℕ → ℕ) (e : ℕ) where
@@ -65,7 +65,7 @@ module _ (p : Plan) (f : ℕ → ℕ) (e : ℕ) where
       (all_from_mem _ (reached_rows p) (λ row _. row_on row ts are))
 
   -- a sub-task's tag is that of a part
-  its_part : (v : ℕ) → v < length (nodes_of p) → get_or p.members v false ≡ true → tagged (tag_at (at (nodes_of p) v)) (at (nodes_of p) v) ≡ true → has_part p (tag_at (at (nodes_of p) v)) ≡ true
+  pub its_part : (v : ℕ) → v < length (nodes_of p) → get_or p.members v false ≡ true → tagged (tag_at (at (nodes_of p) v)) (at (nodes_of p) v) ≡ true → has_part p (tag_at (at (nodes_of p) v)) ≡ true
   its_part v low member is = some_below p (member_where p (tagged (tag_at (at (nodes_of p) v)))) (length (nodes_of p)) v low (rw (member, is) refl)
 
   module _ (tags : List ℕ) (placement : Placement tags p f) (g : ℕ) (here : f g ≡ e) (has : has_part p g ≡ true) where
