@@ -4,3 +4,4 @@ pub mod Seats
 pub mod Asking
 pub mod Lasting
 pub mod Sounding
+pub mod Timely
