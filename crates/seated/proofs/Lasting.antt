@@ -26,7 +26,7 @@ placed_none rules = record { each = tt; numbers_differ = tt; fit = λ e n. omega
 
 module _ (rules : Rules) (lawful : LawfulRules rules) (rs : List Resident) (text : List ℕ) where
   -- the parts of a job that is loaded sit on engines of their tags
-  loaded_seated : (r : Resident) → IsLoaded rules rs text r → WellSeated rules.tags rules.local r
+  pub loaded_seated : (r : Resident) → IsLoaded rules rs text r → WellSeated rules.tags rules.local r
   loaded_seated r loaded = record {
     seats = all_weaker (Sits rules rs r.plan) (λ (s : Seat). tag_of rules.tags s.engine ≡ Some s.tag)
         (λ s sits. is_tagged rules.tags s.tag (tried rules rs s.tag) (lawful.complete [] s.tag (loads rs)) s.engine sits.place sits.there)

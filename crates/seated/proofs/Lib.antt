@@ -5,3 +5,5 @@ pub mod Asking
 pub mod Lasting
 pub mod Sounding
 pub mod Timely
+pub mod Refused
+pub mod Theorems

@@ -43,7 +43,7 @@ own_tag (Alternative nodes) is = absurd (false≢true is)
 own_tag (Conditional nodes) is = absurd (false≢true is)
 
 -- an engine with a tag is there
-engine_low : (tags : List ℕ) (e g : ℕ) → tag_of tags e ≡ Some g → e < length tags
+pub engine_low : (tags : List ℕ) (e g : ℕ) → tag_of tags e ≡ Some g → e < length tags
 engine_low tags e g is = elim (cases_lt e (length tags)) [
   | inl low ↦ low
   | inr past ↦ absurd (none-some g (sym (slice_get_past tags e past) ∙ is))
