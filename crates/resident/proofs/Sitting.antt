@@ -53,7 +53,7 @@ every_part_sits r g few has =
     let seated = ap (list_any test) r.parts ∙ kept ∙ is_a_tag g few in
     sits_among (items r.seats) g seated
 
-pub tag_few : (n : Node) (g : ℕ) → numbers_fit n ≡ true → tagged g n ≡ true → g ≤ 7
+tag_few : (n : Node) (g : ℕ) → numbers_fit n ≡ true → tagged g n ≡ true → g ≤ 7
 tag_few (SubTask tag work nodes) g fit is =
     omega (arith, eqb-true tag g is, leb-true tag 7 (and_parts (leb tag 7) (leb 1 work && leb work 14400) fit).0)
 tag_few (Alternative nodes) g fit is = absurd (let z : ◌≡◌ {A = Bool} false true = is in cc)

@@ -1,9 +1,8 @@
 -- A board begins with residents that are placed, and they stay so when a job is loaded or unloaded.
-use Rattle.std.proofs.Common.{◌≡◌, ◌≢◌, ℕ, ◌+◌, ◌<◌, ◌≤◌, Bool, not, nat_eq, List, [], ◌∷◌, ◌++◌, map, filter, length, Some, sym, refl, ap, subst, ◌∙◌, inl, inr, length-append, arith}
-use Rattle.std.specs.List.{AllByRecursion}
+use Rattle.std.proofs.Common.{◌≡◌, ◌≢◌, ℕ, ◌≤◌, Bool, not, nat_eq, List, [], ◌∷◌, ◌++◌, map, filter, Some, sym, ap, subst, length-append, arith}
 use Rattle.std.proofs.lemmas.List.Elements.{recursion_from_All}
-use Rattle.board.specs.Asked.{asked_by, asked_on, loads}
-use Rattle.board.specs.Loading.{Free, IsLoaded, Takes}
+use Rattle.board.specs.Asked.{asked_on, loads}
+use Rattle.board.specs.Loading.{IsLoaded, Takes}
 use Rattle.board.specs.Placing.{Rules, Sits, tried}
 use Rattle.board.proofs.Listed.{is_tagged}
 use Rattle.engine.specs.Roster.{tag_of}

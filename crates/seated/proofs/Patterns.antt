@@ -1,7 +1,6 @@
 -- What a placed job asks of an engine is what its part there asks.
-use Rattle.std.proofs.Common.{◌≡◌, ◌≢◌, ℕ, zero, suc, ◌+◌, ◌-◌, ◌*◌, ◌<◌, ◌≤◌, Bool, true, false, cond, ◌&&◌, nat_eq, List, [], ◌∷◌, ◌++◌, map, filter, length, get_or, Some, refl, sym, ap, ◌∙◌, inl, inr, append-nil, arith}
-use Rattle.std.specs.List.{AllByRecursion}
-use Rattle.std.proofs.lemmas.Bool.{cases_Bool, cases_eq, eq-eqb, eqb-true, ne_eqb}
+use Rattle.std.proofs.Common.{◌≡◌, ◌≢◌, ℕ, zero, suc, ◌+◌, ◌-◌, ◌*◌, ◌<◌, Bool, true, false, cond, ◌&&◌, nat_eq, List, [], ◌∷◌, ◌++◌, map, filter, length, get_or, refl, sym, ap, ◌∙◌, inl, inr, append-nil, arith}
+use Rattle.std.proofs.lemmas.Bool.{cases_eq, eq-eqb, ne_eqb}
 use Rattle.std.proofs.lemmas.List.Elements.{filter-append}
 use Rattle.std.proofs.lemmas.Option.{same_Some}
 use Rattle.engine.specs.Roster.{tag_of}
@@ -12,7 +11,7 @@ use Rattle.plan.specs.Pattern.{branch_of, part_pattern, window_of}
 use Rattle.plan.specs.Plan.{nodes_of, reached_rows}
 use Rattle.resident.specs.Seats.{has_part}
 use Rattle.resident.proofs.Sitting.{some_below}
-use Rattle.runs.specs.Job.{on_engine, pattern_on, SubTask, window_of as window_in}
+use Rattle.runs.specs.Job.{on_engine, pattern_on, window_of as window_in}
 use Rattle.runs.proofs.Lists.{all_from_mem, map_map, map_on}
 use Rattle.seated.specs.Jobs.{job_at, reached_by, sub_task}
 use Rattle.seated.specs.Placement.{Placement}
@@ -22,7 +21,7 @@ use Rattle.task.specs.declared.node.Node.{Node}
 use Rattle.task.specs.declared.node.Node.TheVariants.{Alternative, Conditional, SubTask as Works}
 use Rattle.task.specs.Graph.{at}
 use Rattle.task.specs.Node.{is_sub_task}
-use Rattle.theory.specs.Demand.{at_cut, best, demand, greatest, greatest_below, later, sum_to}
+use Rattle.theory.specs.Demand.{at_cut, best, demand, greatest, greatest_below, sum_to}
 use Rattle.theory.specs.Pattern.{inner, Pattern, Window}
 
 -- which sub-tasks are kept

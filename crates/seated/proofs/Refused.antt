@@ -1,10 +1,9 @@
 -- A job is refused exactly where every placement of it could be late.
-use Rattle.std.proofs.Common.{◌≡◌, ◌≢◌, ℕ, ◌+◌, ◌<◌, ◌≤◌, Bool, true, List, [], ◌∷◌, ◌++◌, map, length, take, Some, refl, sym, ap, subst, ◌∙◌, inl, inr, take_all, arith}
+use Rattle.std.proofs.Common.{◌≡◌, ◌≢◌, ℕ, ◌<◌, List, [], ◌∷◌, ◌++◌, length, refl, sym, ap, subst, ◌∙◌, inl, inr, take_all, arith}
 use Rattle.std.specs.List.{AllByRecursion}
 use Rattle.std.proofs.lemmas.List.{map-append}
 use Rattle.std.proofs.lemmas.List.Elements.{recursion_from_All}
 use Rattle.board.specs.declared.refusal.Refusal.TheVariants.{NoPlacement}
-use Rattle.board.specs.Asked.{asked_on}
 use Rattle.board.specs.Determined.{SameJob}
 use Rattle.board.specs.Loading.{Free, IsLoaded, LoadRefused}
 use Rattle.board.specs.Placing.{FitsOn, Rules, Stuck}
@@ -16,11 +15,11 @@ use Rattle.plan.specs.Plan.{IsPlan}
 use Rattle.resident.specs.declared.resident.Resident.{Resident}
 use Rattle.resident.specs.Resident.{number_of}
 use Rattle.resident.specs.Seats.{has_part, some_task}
-use Rattle.runs.specs.Events.{Event, play, start}
-use Rattle.runs.specs.Job.{asked, Job as RunJob}
+use Rattle.runs.specs.Events.{play, start}
+use Rattle.runs.specs.Job.{Job as RunJob}
 use Rattle.runs.proofs.LateWhenOverloaded.{fits_or_overloaded, late_when_overloaded}
 use Rattle.seated.specs.Jobs.{job_at, job_of, jobs_of, seat_of}
-use Rattle.seated.specs.Lasting.{Placed, WellSeated}
+use Rattle.seated.specs.Lasting.{Placed}
 use Rattle.seated.specs.Placement.{LateRun, LawfulRules, MustRefuse, Placement}
 use Rattle.seated.proofs.Asking.{asked_beside}
 use Rattle.seated.proofs.Lasting.{loaded_lasts, loaded_seated}
@@ -35,7 +34,6 @@ use Rattle.task.specs.Flaws.{graph}
 use Rattle.task.specs.Picks.{numbers}
 use Rattle.text.specs.JobText.{Reads}
 use Rattle.text.proofs.Only.{one_job}
-use Rattle.theory.specs.Pattern.{Pattern}
 use Rattle.window.specs.Path.{Possible}
 
 -- two plans of one job under one choice ask the same

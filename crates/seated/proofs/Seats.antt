@@ -1,27 +1,26 @@
 -- The parts of a job that sit on an engine: one at most, since an engine has one tag.
-use Rattle.std.proofs.Common.{◌≡◌, ◌≢◌, ℕ, zero, suc, ◌+◌, ◌<◌, ◌≤◌, Bool, true, false, cond, nat_eq, List, [], ◌∷◌, ◌++◌, map, filter, length, Option, Some, None, IsSome, unwrap_or, sum_by, refl, sym, ap, ◌∙◌, subst, inl, inr, arith}
+use Rattle.std.proofs.Common.{◌≡◌, ◌≢◌, ℕ, Bool, true, false, cond, nat_eq, List, [], ◌∷◌, map, filter, Some, IsSome, unwrap_or, refl, sym, ap, ◌∙◌, subst, inl, inr, arith}
 use Rattle.std.specs.List.{AllByRecursion}
 use Rattle.std.proofs.lemmas.Bool.{cases_Bool, cases_eq, eq-eqb, eqb-true, ne_eqb}
 use Rattle.std.proofs.lemmas.List.Sums.{sum_by-cons}
 use Rattle.std.proofs.lemmas.Option.{same_Some}
-use Rattle.board.specs.Asked.{asked_by, seats_on}
+use Rattle.board.specs.Asked.{asked_by}
 use Rattle.engine.specs.Roster.{tag_of}
 use Rattle.few.specs.Few.{items}
 use Rattle.plan.specs.Pattern.{part_pattern}
 use Rattle.resident.specs.declared.resident.Resident.{Resident}
 use Rattle.resident.specs.declared.resident.Seat.{Seat}
-use Rattle.resident.specs.Resident.{engine_among, engine_of}
+use Rattle.resident.specs.Resident.{engine_among}
 use Rattle.resident.specs.Seats.{all_tags, has_part, parts_of}
 use Rattle.resident.proofs.Sitting.{every_part_sits, part_few}
 use Rattle.runs.specs.Job.{Apart, pattern_on}
 use Rattle.runs.proofs.Keys.{apart_map}
-use Rattle.runs.proofs.Lists.{all_from_mem, all_map, all_mem, all_unmap, all_weaker, Mem, mem_map}
+use Rattle.runs.proofs.Lists.{all_from_mem, all_mem, Mem, mem_map}
 use Rattle.seated.specs.Jobs.{job_of, seat_of}
 use Rattle.seated.specs.Placement.{Placement}
 use Rattle.seated.proofs.Lists.{apart_filter, filter_none, range_apart}
 use Rattle.seated.proofs.Patterns.{asks_nothing, asks_there}
 use Rattle.theory.specs.Demand.{demand, demand_of_all}
-use Rattle.theory.specs.Pattern.{Pattern}
 
 abbrev Tagged : List ℕ → List Seat → Type 0
 Tagged tags ss = AllByRecursion (λ (s : Seat). tag_of tags s.engine ≡ Some s.tag) ss
@@ -114,8 +113,8 @@ module _ (r : Resident) where
         go : OnEngine e (items r.seats) → demand (pattern_on e (job_of r)) n ≡ demand_of_all (asked_by r e) n
         go (none z away) =
             asks_nothing r.plan (seat_of r) e (λ g has there.
-                let (s, m, tag, is) = part_seat g has in
-                all_mem (λ (x : Seat). x.engine ≢ e) (items r.seats) s m away (sym is ∙ there)) n
+            let (s, m, tag, is) = part_seat g has in
+            all_mem (λ (x : Seat). x.engine ≢ e) (items r.seats) s m away (sym is ∙ there)) n
             ∙ sym (ap (λ ss. demand_of_all (map (λ (s : Seat). part_pattern r.plan s.tag) ss) n) z)
         go (one s is here m) =
             let q = part_pattern r.plan s.tag in

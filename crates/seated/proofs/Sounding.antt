@@ -1,7 +1,7 @@
 -- Placed jobs are sound and distinct, as runs want them.
-use Rattle.std.proofs.Common.{◌≡◌, ◌≢◌, ℕ, zero, suc, ◌+◌, ◌%◌, ◌<◌, ◌≤◌, Bool, true, false, cond, ◌&&◌, nat_le, List, [], ◌∷◌, ◌++◌, map, length, get_or, Some, refl, sym, ap, ◌∙◌, inl, inr, append-nil, arith}
+use Rattle.std.proofs.Common.{◌≡◌, ◌≢◌, ℕ, zero, suc, ◌<◌, ◌≤◌, Bool, true, false, cond, ◌&&◌, nat_le, List, [], ◌∷◌, ◌++◌, map, length, get_or, Some, refl, sym, ◌∙◌, inl, inr, append-nil, arith}
 use Rattle.std.specs.List.{AllByRecursion}
-use Rattle.std.proofs.lemmas.Bool.{and_parts, cases_Bool, cases_lt, eq-eqb, false≢true, leb-true}
+use Rattle.std.proofs.lemmas.Bool.{and_parts, cases_lt, eq-eqb, false≢true, leb-true}
 use Rattle.std.proofs.lemmas.List.{length-map}
 use Rattle.std.proofs.lemmas.Option.{none-some, slice_get_past}
 use Rattle.engine.specs.Roster.{tag_of}
@@ -13,11 +13,10 @@ use Rattle.plan.specs.Plan.{nodes_of, reached_rows}
 use Rattle.plan.proofs.Formed.{all_below, period_divides, tasks_fit}
 use Rattle.resident.specs.declared.resident.Resident.{Resident}
 use Rattle.resident.specs.Resident.{number_of}
-use Rattle.resident.specs.Seats.{has_part}
 use Rattle.runs.specs.Job.{Apart, Distinct, Job, Sound, SoundTask, SubTask}
 use Rattle.runs.proofs.Lists.{all_append, all_both, all_from_mem, all_map, all_weaker}
 use Rattle.seated.specs.Jobs.{job_at, job_of, jobs_of, reached_by, seat_of, sub_task}
-use Rattle.seated.specs.Lasting.{PlacedOn, WellSeated}
+use Rattle.seated.specs.Lasting.{WellSeated}
 use Rattle.seated.specs.Placement.{Placement}
 use Rattle.seated.proofs.Lists.{all_filter, apart_filter, apart_push, apart_to_map}
 use Rattle.seated.proofs.Patterns.{its_part, member_where}

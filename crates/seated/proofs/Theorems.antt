@@ -1,8 +1,8 @@
 -- The theorems of runs on a board.
-use Rattle.std.proofs.Common.{ℕ, ◌≤◌, ◌≡◌, List, length}
-use Rattle.board.specs.Determined.{Complete}
+use Rattle.std.proofs.Common.{ℕ, ◌≤◌, List, length}
 use Rattle.board.specs.Placing.{Rules}
 use Rattle.engine.specs.Supply.{Lawful, NoneServed}
+use Rattle.order.specs.Listing.{EachOnce}
 use Rattle.seated.specs.Placement.{LawfulRules}
 use Rattle.seated.specs.Theorems.{NeverLateOnBoard, RefusedExactly, StaysPlaced}
 use Rattle.seated.proofs.Lasting.{placed_none, takes_lasts, unloaded_lasts}
@@ -12,12 +12,13 @@ use Rattle.slack.specs.Rule.{Lawful as LawfulSlack}
 
 -- the laws of a platform, a slack rule and an engine order, as their traits state them
 pub lawful_rules : (rules : Rules) (cycle quota : ℕ → ℕ) → ((e : ℕ) → Lawful (rules.supply e) (cycle e) (quota e))
-    → ((e : ℕ) → length rules.tags ≤ e → NoneServed (rules.supply e) (cycle e) (quota e)) → LawfulSlack rules.local → Complete rules → LawfulRules rules
+    → ((e : ℕ) → length rules.tags ≤ e → NoneServed (rules.supply e) (cycle e) (quota e)) → LawfulSlack rules.local
+    → ((told : List (ℕ × ℕ)) (tags : List ℕ) (g : ℕ) (loads : List ℕ) → EachOnce tags g (rules.listing told tags g loads)) → LawfulRules rules
 lawful_rules rules cycle quota laws missing slack complete = record {
   supply = λ e. record { none = (laws e).none; grows = (laws e).grows; by_one = (laws e).by_one; joins = (laws e).joins };
   missing = λ e n past. (missing e past).idle n;
   slack = slack;
-  complete = complete;
+  complete = λ told. complete told rules.tags;
 }
 
 pub stays_placed : StaysPlaced

@@ -1,8 +1,7 @@
 -- On a board whose residents are placed nothing is late, and what is ready waits for nothing.
-use Rattle.std.proofs.Common.{◌≡◌, ℕ, zero, suc, ◌+◌, ◌<◌, ◌≤◌, Bool, true, false, List, [], ◌∷◌, ◌++◌, map, flat_map, length, slice_get, get_or, take, Some, Option, None, refl, sym, ap, ◌∙◌, subst, inl, inr, ◌⊎◌, arith}
+use Rattle.std.proofs.Common.{◌≡◌, ℕ, zero, suc, ◌+◌, ◌≤◌, Bool, true, false, List, [], ◌∷◌, ◌++◌, map, length, slice_get, get_or, take, Some, Option, refl, sym, ap, subst, inl, inr, arith}
 use Rattle.std.specs.List.{AllByRecursion}
 use Rattle.std.proofs.lemmas.Option.{none-some, same_Some}
-use Rattle.board.specs.Asked.{asked_on}
 use Rattle.board.specs.Placing.{Rules}
 use Rattle.computed.proofs.Asked.{job_sound}
 use Rattle.plan.specs.declared.part.Task.{Task as Planned}
@@ -12,17 +11,17 @@ use Rattle.plan.specs.Plan.{nodes_of, reached_rows}
 use Rattle.plan.proofs.Formed.{all_below}
 use Rattle.resident.specs.declared.resident.Resident.{Resident}
 use Rattle.runs.specs.Events.{advance, arrive, arrive_at, arrived, choices, Event, expired, granted, opened, play, run, start, step, tick}
-use Rattle.runs.specs.Job.{AllFit, branch_of, Job, SubTask}
+use Rattle.runs.specs.Job.{AllFit, branch_of, SubTask}
 use Rattle.runs.specs.Next.{Key, ready}
 use Rattle.runs.specs.Runs.{masks, OnTime, Supplied}
 use Rattle.runs.specs.State.{each, finished, OpenTask, Slot, State, tasks_of}
 use Rattle.runs.proofs.LateWhenOverloaded.{soon}
 use Rattle.runs.proofs.Lists.{all_from_mem, all_map, all_mem, all_weaker, cond_both, Mem}
 use Rattle.runs.proofs.NeverLate.{never_late}
-use Rattle.seated.specs.Jobs.{job_at, job_of, jobs_of, reached_by, seat_of, sub_task}
-use Rattle.seated.specs.Lasting.{Placed, PlacedOn, WellSeated}
+use Rattle.seated.specs.Jobs.{job_of, jobs_of, reached_by, seat_of, sub_task}
+use Rattle.seated.specs.Lasting.{Placed, WellSeated}
 use Rattle.seated.specs.Placement.{LawfulRules}
-use Rattle.seated.specs.Waits.{InOrder, WaitsFor}
+use Rattle.seated.specs.Waits.{InOrder}
 use Rattle.seated.proofs.Asking.{asked_same}
 use Rattle.seated.proofs.Lists.{all_filter, mem_at}
 use Rattle.seated.proofs.Patterns.{member_where}

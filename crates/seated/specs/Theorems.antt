@@ -1,8 +1,10 @@
 -- The theorems of runs on a board.
---   StaysPlaced         a board begins with its residents placed, and they stay so when a job is loaded or unloaded, by rules with whatever order of engines
---   NeverLateOnBoard    where the residents are placed and the engines are served at least their supply, everything is on time after every event, and what is ready waits for nothing
---   RefusedExactly      a job that cannot be placed could be late under every possible choice, wherever its parts are put; a job that is loaded could not
-use Rattle.std.specs.Prelude.{ℕ, Bool, not, ◌==◌, List, [], filter, length, take}
+--   Stays rules               a board without residents is placed, and it stays so when a job is loaded or unloaded
+--   StaysPlaced               so it does by all lawful rules
+--   NeverLateOnBoard          where the residents are placed and the engines are served at least their supply, everything is on time after every event, and what is ready waits for nothing
+--   Refuses rules rs text     a job that cannot be placed could be late under every possible choice, wherever its parts are put; a job that is loaded could not
+--   RefusedExactly            so it is by all lawful rules, where the residents are placed
+use Rattle.std.specs.Prelude.{ℕ, not, ◌==◌, List, [], filter, length, take}
 use Rattle.board.specs.declared.refusal.Refusal.TheVariants.{NoPlacement}
 use Rattle.board.specs.Loading.{IsLoaded, LoadRefused, Takes}
 use Rattle.board.specs.Placing.{Rules}
