@@ -1,5 +1,5 @@
 -- What the residents of a board ask of an engine, as jobs of a run.
-use Rattle.std.proofs.Common.{◌≡◌, ℕ, ◌+◌, ◌≤◌, true, Bool, List, [], ◌∷◌, ◌++◌, map, filter, refl, ap, inl, inr, arith}
+use Rattle.std.proofs.Common.{◌≡◌, ◌≢◌, ℕ, ◌+◌, ◌≤◌, true, Bool, List, [], ◌∷◌, ◌++◌, map, filter, refl, ap, inl, inr, arith}
 use Rattle.std.specs.List.{AllByRecursion}
 use Rattle.std.proofs.lemmas.Bool.{cases_Bool}
 use Rattle.std.proofs.lemmas.List.{append-nil, map-append}
@@ -13,7 +13,7 @@ use Rattle.runs.specs.Job.{asked, Job, pattern_on}
 use Rattle.seated.specs.Jobs.{job_at, job_of, jobs_of}
 use Rattle.seated.specs.Lasting.{WellSeated}
 use Rattle.seated.specs.Placement.{Placement}
-use Rattle.seated.proofs.Patterns.{asks_there}
+use Rattle.seated.proofs.Patterns.{asks_nothing, asks_there}
 use Rattle.seated.proofs.Seats.{asks_by_seats}
 use Rattle.slack.specs.declared.rule.Position.{Position}
 use Rattle.theory.specs.Demand.{demand, demand_of_all}
@@ -82,3 +82,8 @@ module _ (tags : List ℕ) (local : Position → ℕ) (rs : List Resident) (each
     ap (λ q. demand q n) (asks_there p f (f g) tags placement g refl has),
     demand_cons (part_pattern p g) (asked_on rs (f g)) n,
   )
+
+  -- where no part of it sits on an engine, it asks nothing more there
+  pub asked_elsewhere : (p : Plan) (f : ℕ → ℕ) (e : ℕ) → ((g : ℕ) → has_part p g ≡ true → f g ≢ e)
+      → (n : ℕ) → asked e (jobs_of rs ++ job_at p f ∷ []) n ≡ demand_of_all (asked_on rs e) n
+  asked_elsewhere p f e none n = omega (arith, asked_push e (jobs_of rs) (job_at p f) n, asked_same e n, asks_nothing p f e none n)
