@@ -6,7 +6,7 @@ use Rattle.std.proofs.Math.Path.{fun_ext}
 use Rattle.std.proofs.lemmas.List.{length-map}
 use Rattle.std.proofs.lemmas.List.Elements.{All-cons, All-head, All-nil, All-tail}
 use Rattle.board.specs.declared.refusal.Refusal.{Refusal}
-use Rattle.board.specs.declared.refusal.Refusal.TheVariants.{Fault, NumberTaken, BoardFull, NoChoice, NoPlacement, NotResident, ShortBuffer}
+use Rattle.board.specs.declared.refusal.Refusal.TheVariants.{Fault, NumberTaken, BoardFull, NoChoice, NoPlacement, NotResident, NoBranch, TooSoon, NoEngine, LastClock, ShortBuffer}
 use Rattle.board.specs.Asked.{asked_on, load_of, loads}
 use Rattle.board.specs.Loading.{Comes, Free, IsLoaded, LoadRefused}
 use Rattle.board.specs.Placing.{CannotBePlaced, FirstFit, FitsOn, IsPlaced, Places, Rules, Sits, Stuck, tried}
@@ -89,3 +89,7 @@ module _ (rules : Rules) (rs qs : List Resident) (same : AskSame rs qs) (text : 
   refused_moves NoPlacement (j, comes, some, none) = (j, comes_moves rules rs qs same text j comes, some, (λ c low. cannot_moves rules rs qs same j c (none c low)))
   refused_moves NotResident refused = refused
   refused_moves ShortBuffer refused = refused
+  refused_moves NoBranch refused = refused
+  refused_moves TooSoon refused = refused
+  refused_moves NoEngine refused = refused
+  refused_moves LastClock refused = refused

@@ -1,7 +1,7 @@
 -- A text that passes the questions before the last one of loading is refused by no other than that.
 use Rattle.std.proofs.Common.{◌≡◌, ℕ, ◌<◌, ◌≤◌, List, length, refl, sym, subst, arith}
 use Rattle.board.specs.declared.refusal.Refusal.{Refusal}
-use Rattle.board.specs.declared.refusal.Refusal.TheVariants.{Fault, NumberTaken, BoardFull, NoChoice, NoPlacement, NotResident, ShortBuffer}
+use Rattle.board.specs.declared.refusal.Refusal.TheVariants.{Fault, NumberTaken, BoardFull, NoChoice, NoPlacement, NotResident, NoBranch, TooSoon, NoEngine, LastClock, ShortBuffer}
 use Rattle.board.specs.Determined.{SameJob}
 use Rattle.board.specs.Loading.{Comes, Free, LoadRefused, SomePossible}
 use Rattle.board.specs.Placing.{Rules}
@@ -30,3 +30,7 @@ module _ (rules : Rules) (rs : List Resident) (text : List ℕ) (j : Job) (comes
   last_question NoPlacement refused = refl
   last_question NotResident refused = absurd refused
   last_question ShortBuffer refused = absurd refused
+  last_question NoBranch refused = absurd refused
+  last_question TooSoon refused = absurd refused
+  last_question NoEngine refused = absurd refused
+  last_question LastClock refused = absurd refused

@@ -28,7 +28,7 @@ some_behind [] y = refl
 some_behind (x ∷ xs) y = refl
 
 -- one node that passes is enough
-some_below : (p : Plan) (t : ℕ → Bool) (n v : ℕ) → v < n → t v ≡ true → some_task (tasks_below p t n) ≡ true
+pub some_below : (p : Plan) (t : ℕ → Bool) (n v : ℕ) → v < n → t v ≡ true → some_task (tasks_below p t n) ≡ true
 some_below p t zero v low yes' = absurd (omega arith)
 some_below p t (suc n) v low yes' = elim (cases_eq v n) [
   | inl same ↦ let here = ap t (sym same) ∙ yes' in rw here (some_behind (tasks_below p t n) (task_at p n))

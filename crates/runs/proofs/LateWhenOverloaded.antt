@@ -67,7 +67,7 @@ met engines e x n (j ∷ jobs) sound soon =
     }
 
 -- a period that divides a belt cycle is no longer than it, and so is a deadline within
-soon : (engines : ℕ) (j : Job) → Sound engines j → j.deadline ≤ 14400
+pub soon : (engines : ℕ) (j : Job) → Sound engines j → j.deadline ≤ 14400
 soon engines j sound = elim (cases_lt 14400 j.period) [
   | inl long ↦
       let same : 14400 % j.period ≡ 14400 = mod-eq_of_lt long in

@@ -1,0 +1,9 @@
+pub mod Lists
+pub mod Patterns
+pub mod Seats
+pub mod Asking
+pub mod Lasting
+pub mod Sounding
+pub mod Timely
+pub mod Refused
+pub mod Theorems

@@ -22,6 +22,7 @@ use Rattle.task.specs.Flaws.{graph}
 use Rattle.task.specs.Picks.{numbers}
 use Rattle.window.specs.Path.{Possible}
 
+-- the laws of the traits `Supply`, `SlackRule` and `EngineOrder` give these (`lawful_rules` in `proofs/Theorems.antt`)
 pub record LawfulRules (rules : Rules) : Type 0 where
   pub supply : (e : ℕ) → Lawful (rules.supply e)
   pub missing : (e n : ℕ) → length rules.tags ≤ e → rules.supply e n ≡ 0
