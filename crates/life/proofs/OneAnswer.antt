@@ -16,8 +16,9 @@ use Rattle.life.specs.declared.call.Answer.{Answer}
 use Rattle.life.specs.declared.call.Answer.TheVariants.{Done, Loaded, NotTaken, Refused, Ticked}
 use Rattle.life.specs.declared.call.Call.{Call}
 use Rattle.life.specs.declared.call.Call.TheVariants.{Arrive, Load, Start, Stop, Tick, Unload}
-use Rattle.life.specs.Answered.{Answered, Ran, ticked}
-use Rattle.life.specs.Refusing.{ArriveRefused, TickRefused}
+use Rattle.life.specs.Answered.{Answered, ticked}
+use Rattle.running.specs.Arriving.{ArriveRefused, slot_of}
+use Rattle.running.specs.Ticking.{NoOther, Ran, SomeOther, TickRefused}
 use Rattle.life.specs.Standing.{at, Listing, running, Standing, state_of, stopped}
 use Rattle.life.proofs.Alike.{AllTwins, Both, each, neither, Twins, twins_found, twins_jobs, twins_left, twins_more, twins_same}
 use Rattle.life.proofs.Moving.{loaded_moves, refused_moves}

@@ -10,8 +10,9 @@ use Rattle.life.specs.declared.call.Answer.{Answer}
 use Rattle.life.specs.declared.call.Answer.TheVariants.{Done, Loaded, NotTaken, Refused, Ticked}
 use Rattle.life.specs.declared.call.Call.{Call}
 use Rattle.life.specs.declared.call.Call.TheVariants.{Arrive, Load, Start, Stop, Tick, Unload}
-use Rattle.life.specs.Answered.{Answered, arrives, loads, not_taken, Ran, refuses_arrival, refuses_load, refuses_tick, refuses_unload, starts, stops, taken, ticked, ticks, unloads}
-use Rattle.life.specs.Refusing.{ArriveRefused, TickRefused}
+use Rattle.life.specs.Answered.{Answered, arrives, loads, not_taken, refuses_arrival, refuses_load, refuses_tick, refuses_unload, starts, stops, taken, ticked, ticks, unloads}
+use Rattle.running.specs.Arriving.{ArriveRefused}
+use Rattle.running.specs.Ticking.{Ran, TickRefused}
 use Rattle.life.specs.Standing.{at, Listing, running, Standing, state_of, stopped}
 use Rattle.resident.specs.declared.resident.Resident.{Resident}
 use Rattle.runs.specs.Events.{arrive, Event}
@@ -49,8 +50,8 @@ Outcome rules (running rs l es) (Load text) a t = Kept NotTaken (running rs l es
 Outcome rules (running rs l es) (Unload n) a t = Kept NotTaken (running rs l es) a t
 Outcome rules (running rs l es) Start a t = Kept NotTaken (running rs l es) a t
 Outcome rules (running rs l es) (Arrive n b) a t =
-    (Granted (length rules.tags) (state_of rs es) (arrive n b) × Kept Done (running rs l (es ++ arrive n b ∷ [])) a t) ⊎ Refuses (ArriveRefused rs (state_of rs es) n b) (running rs l es) a t
-Outcome rules (running rs l es) (Tick served done) a t = TickedTo rules rs l es served done a t ⊎ Refuses (TickRefused rules.tags (state_of rs es) served done) (running rs l es) a t
+    (Granted (length rules.tags) (state_of rs es) (arrive n b) × Kept Done (running rs l (es ++ arrive n b ∷ [])) a t) ⊎ Refuses (ArriveRefused (state_of rs es) n b) (running rs l es) a t
+Outcome rules (running rs l es) (Tick served done) a t = TickedTo rules rs l es served done a t ⊎ Refuses (TickRefused (length rules.tags) (state_of rs es) served done) (running rs l es) a t
 Outcome rules (running rs l es) Stop a t = Kept Done (stopped rs l) a t
 
 module _ (rules : Rules) where

@@ -1,30 +1,26 @@
 -- What each call answers, and how the board stands after it.
 --   taken s call                      whether a board that stands as s takes the call: arrivals, ticks and stops if it runs, and else loads, unloads and starts
 --   arrival n b, ticked served done   an arrival of the job n with the branch number b, and a tick with these masks, as events of a run
---   Ran st served ran                 ran says of each engine what it runs in a tick with the served mask
 --   Answered rules s call answer t    by the rules the call on a board that stands as s gets the answer, and then the board stands as t
-use Rattle.std.specs.Prelude.{◌≡◌, ℕ, ◌+◌, ◌<◌, Bool, true, false, cond, List, [], ◌∷◌, ◌++◌, length, IsSome, Option, Some, None, slice_index_or}
+use Rattle.std.specs.Prelude.{◌≡◌, ℕ, ◌+◌, Bool, true, false, List, [], ◌∷◌, ◌++◌, length, IsSome, Option}
 use Rattle.std.specs.Borrow.{Bor}
-use Rattle.std.specs.Option.{option_map}
 use Rattle.board.specs.declared.refusal.Refusal.{Refusal}
 use Rattle.board.specs.Loading.{LoadRefused, Takes}
 use Rattle.board.specs.Placing.{Rules}
 use Rattle.board.specs.Residents.{others, resident_of}
 use Rattle.board.specs.Unloading.{UnloadRefused}
 use Rattle.dispatch.specs.declared.candidate.Next.{Next}
-use Rattle.dispatch.specs.Candidate.{named}
 use Rattle.dispatch.specs.Ticking.{masked}
 use Rattle.life.specs.declared.call.Answer.{Answer}
 use Rattle.life.specs.declared.call.Answer.TheVariants.{Done, Loaded, NotTaken, Refused, Ticked}
 use Rattle.life.specs.declared.call.Call.{Call}
 use Rattle.life.specs.declared.call.Call.TheVariants.{Arrive, Load, Start, Stop, Tick, Unload}
-use Rattle.life.specs.Refusing.{ArriveRefused, TickRefused}
 use Rattle.life.specs.Standing.{at, Listing, running, Standing, state_of, stopped}
 use Rattle.resident.specs.declared.resident.Resident.{Resident}
-use Rattle.runs.specs.Events.{arrive, Event, step, tick}
-use Rattle.runs.specs.Next.{next}
+use Rattle.running.specs.Arriving.{ArriveRefused}
+use Rattle.running.specs.Ticking.{Ran, TickRefused}
+use Rattle.runs.specs.Events.{arrive, Event, tick}
 use Rattle.runs.specs.Runs.{Granted}
-use Rattle.runs.specs.State.{State, tasks_of}
 
 abbrev pub taken : Standing → Call → Bool
 taken (stopped rs l) (Load text) = true
@@ -42,9 +38,6 @@ taken (running rs l es) Stop = true
 
 abbrev pub ticked : ℕ → ℕ → Event
 ticked served done = tick (masked served) (masked done)
-
-abbrev pub Ran : State → ℕ → List (Option Next) → Type 0
-Ran st served ran = (e : ℕ) → e < 16 → slice_index_or ran e None ≡ cond (masked served e) (option_map named (next e st.clock (tasks_of st.slots))) None
 
 pub data Answered (rules : Rules) : Standing → Call → Answer → Standing → Type 0 where
   loads : {rs after : List Resident} {l told : Listing} {text : Bor (List ℕ)} {n : ℕ}
@@ -65,7 +58,7 @@ pub data Answered (rules : Rules) : Standing → Call → Answer → Standing �
       → Granted (length rules.tags) (state_of rs es) (arrive n b)
       → Answered rules (running rs l es) (Arrive n b) Done (running rs l (es ++ arrive n b ∷ []))
   refuses_arrival : {rs : List Resident} {l : Listing} {es : List Event} {n b : ℕ} {f : Refusal}
-      → ArriveRefused rs (state_of rs es) n b f
+      → ArriveRefused (state_of rs es) n b f
       → Answered rules (running rs l es) (Arrive n b) (Refused f) (running rs l es)
   ticks : {rs : List Resident} {l : Listing} {es : List Event} {served done late : ℕ} {ran : List (Option Next)}
       → Granted (length rules.tags) (state_of rs es) (ticked served done)
@@ -73,7 +66,7 @@ pub data Answered (rules : Rules) : Standing → Call → Answer → Standing �
       → (state_of rs (es ++ ticked served done ∷ [])).lates ≡ (state_of rs es).lates + late
       → Answered rules (running rs l es) (Tick served done) (Ticked ran late) (running rs l (es ++ ticked served done ∷ []))
   refuses_tick : {rs : List Resident} {l : Listing} {es : List Event} {served done : ℕ} {f : Refusal}
-      → TickRefused rules.tags (state_of rs es) served done f
+      → TickRefused (length rules.tags) (state_of rs es) served done f
       → Answered rules (running rs l es) (Tick served done) (Refused f) (running rs l es)
   stops : {rs : List Resident} {l : Listing} {es : List Event}
       → Answered rules (running rs l es) Stop Done (stopped rs l)

@@ -1,4 +1,3 @@
 pub mod Standing
-pub mod Refusing
 pub mod Answered
 pub mod Lives
