@@ -1,0 +1,35 @@
+use Rattle.std.proofs.Common.{rules, ◌≡◌, length, false, true, Some, None, List, ℕ, ◌+◌, ◌-◌, ◌*◌, ◌<◌, ◌≤◌, ◌/◌, ◌%◌, Bool, nat_eq, nat_lt, [], ◌∷◌, ◌++◌, slice_index_or, slice_set, bit_and, bit_or, Fits, w8, w32, w64, Bor, MutBor}
+use Rattle.board.specs.Placing.{Rules}
+use Rattle.board.specs.Residents.{jobs}
+use Rattle.dispatch.specs.Kept.{kept}
+use Rattle.life.specs.Answered.{Answered, ticked}
+use Rattle.life.specs.declared.call.Call.TheVariants.{Tick}
+use Rattle.life.specs.InStep.{InStep, board_of, late_of, stands, turns}
+use Rattle.life.specs.Standing.{Listing, running, state_of, stopped}
+use Rattle.running.specs.View.{view}
+use Rattle.runs.specs.Events.{Event}
+use Rattle.life.proofs.standing.call_running.Goals as goal
+
+-- src/standing.rt:64:1
+pub returns-in-Ok-clause-answered : goal.returns-in-Ok-clause-answered
+returns-in-Ok-clause-answered g c = ?
+
+-- src/standing.rt:64:1
+pub returns-in-Ok-clause-kept : goal.returns-in-Ok-clause-kept
+returns-in-Ok-clause-kept g c = ?
+
+-- src/standing.rt:64:1
+pub returns-in-Err-clause-answered : goal.returns-in-Err-clause-answered
+returns-in-Err-clause-answered g c = ?
+
+-- src/standing.rt:64:1
+pub returns-in-Err-clause-kept : goal.returns-in-Err-clause-kept
+returns-in-Err-clause-kept g c = ?
+
+-- src/standing.rt:64:1
+pub returns-in-Tick-clause-answered : goal.returns-in-Tick-clause-answered
+returns-in-Tick-clause-answered g c = ?
+
+-- src/standing.rt:64:1
+pub returns-in_default : goal.returns-in_default
+returns-in_default g c = ?
