@@ -7,4 +7,5 @@ mod known;
 mod reached;
 pub mod running;
 pub mod starting;
+pub mod stopping;
 pub mod ticking;
