@@ -9,20 +9,27 @@ use Rattle.board.specs.Residents.{jobs, others, resident_of}
 use Rattle.board.specs.Unloading.{UnloadRefused}
 use Rattle.dispatch.specs.declared.candidate.Next.{Next}
 use Rattle.dispatch.specs.Kept.{kept}
+use Rattle.dispatch.specs.KeptLaws.{kept_granted, kept_start}
 use Rattle.life.specs.declared.call.Answer.{Answer}
 use Rattle.life.specs.declared.call.Answer.TheVariants.{Done, Loaded, NotTaken, Refused, Ticked}
 use Rattle.life.specs.declared.call.Call.{Call}
 use Rattle.life.specs.declared.call.Call.TheVariants.{Arrive, Load, Start, Stop, Tick, Unload}
 use Rattle.life.specs.Answered.{Answered, arrives, loads, not_taken, refuses_arrival, refuses_load, refuses_tick, refuses_unload, starts, stops, taken, ticked, ticks, unloads}
-use Rattle.life.specs.InStep.{turns}
+use Rattle.life.specs.declared.standing.Standing.{Standing as Code}
+use Rattle.life.specs.declared.standing.Standing.TheVariants.{Running, Stopped}
+use Rattle.life.specs.InStep.{InStep, stands, turns}
 use Rattle.life.specs.Standing.{at, Listing, running, Standing, state_of, stopped}
 use Rattle.life.proofs.Keeping.{arrival_refused, keeps_arrival, keeps_tick, ran_kept, state_more, tick_granted, tick_refused}
 use Rattle.resident.specs.declared.resident.Resident.{Resident}
 use Rattle.running.specs.Arriving.{ArriveRefused}
 use Rattle.running.specs.Ticking.{NoOther, Ran, TickRefused}
-use Rattle.runs.specs.Events.{arrive, Event, granted, step}
+use Rattle.running.specs.declared.running.Running.{Running as RunningBoard}
+use Rattle.running.specs.View.{view}
+use Rattle.runs.specs.Events.{arrive, Event, granted, start, step}
 use Rattle.runs.specs.Runs.{Granted}
 use Rattle.runs.specs.State.{State}
+use Rattle.seated.specs.Jobs.{jobs_of}
+use Rattle.std.specs.List.{list_any}
 
 module _ (rules : Rules) (call : Call) where
   called : {s t : Standing} {a : Answer} (k : Call) → call ≡ k → Answered rules s k a t → Answered rules s call a t
@@ -96,3 +103,52 @@ module _ (rules : Rules) (rs : List Resident) (l : Listing) (es : List Event) (w
   pub tick_not : (served done : ℕ) (f : Refusal) → TickRefused (length rules.tags) was served done f → now ≡ was → Goes (Tick served done) (Refused f)
   tick_not served done f refused same =
       (es, refuses_tick (tick_refused (state_of rs es) (length rules.tags) served done f (subst (λ (st : State). TickRefused (length rules.tags) st served done f) keeps refused)), same ∙ keeps)
+
+  pub arrival_grants : (engines n b : ℕ) → list_any (granted was.clock n b) was.slots ≡ true → Granted engines (state_of rs es) (arrive n b)
+  arrival_grants engines n b is =
+      let st = state_of rs es in
+      sym (kept_granted st.clock n b st.slots) ∙ ap (λ (x : State). list_any (granted x.clock n b) x.slots) (sym keeps) ∙ is
+
+-- starting and stopping
+module _ {P R O : Type 0} (rules : Rules) (listing : O → Listing) (self : Code P R O) (call : Call) where
+  abbrev pub Turns : Answer → Code P R O → List Event → Type 0
+  Turns a after es = (fs : List Event) × Answered rules (stands listing self es) call a (stands listing after fs) × InStep after fs
+
+  pub turn_start : (b : Board P R O) (r : RunningBoard P R O) (es : List Event) → self ≡ Stopped b → call ≡ Start → view r ≡ start (jobs_of (jobs b.residents)) → r.board ≡ b → Turns Done (Running r) es
+  turn_start b r es is started begins board =
+      ([],
+       subst (λ (s : Code P R O). Answered rules (stands listing s es) call Done (running (jobs r.board.residents) (listing r.board.order) [])) (sym is)
+       (subst (λ (k : Call). Answered rules (stopped (jobs b.residents) (listing b.order)) k Done (running (jobs r.board.residents) (listing r.board.order) [])) (sym started)
+       (subst (λ (x : Board P R O). Answered rules (stopped (jobs b.residents) (listing b.order)) Start Done (running (jobs x.residents) (listing x.order) [])) (sym board) starts)),
+       begins ∙ sym (kept_start (jobs_of (jobs b.residents))) ∙ ap (λ (x : Board P R O). kept (state_of (jobs x.residents) [])) (sym board))
+
+  pub turn_stop : (r : RunningBoard P R O) (b : Board P R O) (es : List Event) → self ≡ Running r → call ≡ Stop → b ≡ r.board → Turns Done (Stopped b) es
+  turn_stop r b es is stopping board =
+      ([],
+       subst (λ (s : Code P R O). Answered rules (stands listing s es) call Done (stopped (jobs b.residents) (listing b.order))) (sym is)
+       (subst (λ (k : Call). Answered rules (running (jobs r.board.residents) (listing r.board.order) es) k Done (stopped (jobs b.residents) (listing b.order))) (sym stopping)
+       (subst (λ (x : Board P R O). Answered rules (running (jobs r.board.residents) (listing r.board.order) es) Stop Done (stopped (jobs x.residents) (listing x.order))) (sym board) stops)),
+       tt)
+
+  pub turn_not_stopped : (b : Board P R O) (es : List Event) → self ≡ Stopped b → turns call ≡ true → (call ≡ Start → ⊥) → Turns NotTaken (Stopped b) es
+  turn_not_stopped b es is turning other =
+      ([], subst (λ (s : Code P R O). Answered rules (stands listing s es) call NotTaken (stopped (jobs b.residents) (listing b.order))) (sym is) (not_taken (left call turning other)), tt) where
+      left : (k : Call) → turns k ≡ true → (k ≡ Start → ⊥) → taken (stopped (jobs b.residents) (listing b.order)) k ≡ false
+      left (Load text) turning other = absurd (let z : ◌≡◌ {A = Bool} false true = turning in cc)
+      left (Unload n) turning other = absurd (let z : ◌≡◌ {A = Bool} false true = turning in cc)
+      left Start turning other = absurd (other refl)
+      left (Arrive n b) turning other = refl
+      left (Tick served done) turning other = refl
+      left Stop turning other = refl
+
+  pub turn_not_running : (r : RunningBoard P R O) (es : List Event) → self ≡ Running r → InStep self es → turns call ≡ true → (call ≡ Stop → ⊥) → Turns NotTaken (Running r) es
+  turn_not_running r es is keeps turning other =
+      (es, subst (λ (s : Code P R O). Answered rules (stands listing s es) call NotTaken (running (jobs r.board.residents) (listing r.board.order) es)) (sym is) (not_taken (left call turning other)),
+       subst (λ (s : Code P R O). InStep s es) is keeps) where
+      left : (k : Call) → turns k ≡ true → (k ≡ Stop → ⊥) → taken (running (jobs r.board.residents) (listing r.board.order) es) k ≡ false
+      left (Load text) turning other = refl
+      left (Unload n) turning other = refl
+      left Start turning other = refl
+      left (Arrive n b) turning other = absurd (let z : ◌≡◌ {A = Bool} false true = turning in cc)
+      left (Tick served done) turning other = absurd (let z : ◌≡◌ {A = Bool} false true = turning in cc)
+      left Stop turning other = absurd (other refl)

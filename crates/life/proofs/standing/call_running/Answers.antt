@@ -1,35 +1,39 @@
-use Rattle.std.proofs.Common.{rules, ◌≡◌, length, false, true, Some, None, List, ℕ, ◌+◌, ◌-◌, ◌*◌, ◌<◌, ◌≤◌, ◌/◌, ◌%◌, Bool, nat_eq, nat_lt, [], ◌∷◌, ◌++◌, slice_index_or, slice_set, bit_and, bit_or, Fits, w8, w32, w64, Bor, MutBor}
-use Rattle.board.specs.Placing.{Rules}
+use Rattle.std.proofs.Common.{rules, ◌≡◌, ap, subst, sym, ◌∙◌, length, List}
 use Rattle.board.specs.Residents.{jobs}
 use Rattle.dispatch.specs.Kept.{kept}
-use Rattle.life.specs.Answered.{Answered, ticked}
-use Rattle.life.specs.declared.call.Call.TheVariants.{Tick}
-use Rattle.life.specs.InStep.{InStep, board_of, late_of, stands, turns}
-use Rattle.life.specs.Standing.{Listing, running, state_of, stopped}
+use Rattle.life.specs.Answered.{Answered}
+use Rattle.life.specs.declared.call.Answer.TheVariants.{Done, Refused}
+use Rattle.life.specs.declared.call.Call.{Call}
+use Rattle.life.specs.declared.call.Call.TheVariants.{Arrive, Tick}
+use Rattle.life.specs.Standing.{running, state_of}
+use Rattle.life.proofs.Answering.{arrival_granted, arrival_grants, arrival_not, Goes, running_takes_not}
 use Rattle.running.specs.View.{view}
-use Rattle.runs.specs.Events.{Event}
 use Rattle.life.proofs.standing.call_running.Goals as goal
 
--- src/standing.rt:64:1
 pub returns-in-Ok-clause-answered : goal.returns-in-Ok-clause-answered
-returns-in-Ok-clause-answered g c = ?
+returns-in-Ok-clause-answered g c = λ by l es tags keeps.
+    let rs = jobs c.args.board.now.board.residents in
+    let was = view c.args.board.now in
+    let now = view c.arrive.new.self in
+    let n = c.in-Arrive.number in
+    let b = c.in-Arrive.branch in
+    subst (λ (k : Call). Goes by rs l es was now keeps k Done) (sym c.in-Arrive.is)
+    (arrival_granted by rs l es was now keeps n b (arrival_grants by rs l es was now keeps (length by.tags) n b c.in-Ok.ensures.granted) c.in-Ok.ensures.arrives)
 
--- src/standing.rt:64:1
-pub returns-in-Ok-clause-kept : goal.returns-in-Ok-clause-kept
-returns-in-Ok-clause-kept g c = ?
-
--- src/standing.rt:64:1
 pub returns-in-Err-clause-answered : goal.returns-in-Err-clause-answered
-returns-in-Err-clause-answered g c = ?
+returns-in-Err-clause-answered g c = λ by l es tags keeps.
+    let rs = jobs c.args.board.now.board.residents in
+    let was = view c.args.board.now in
+    let now = view c.arrive.new.self in
+    subst (λ (k : Call). Goes by rs l es was now keeps k (Refused c.in-Err.refusal)) (sym c.in-Arrive.is)
+    (arrival_not by rs l es was now keeps c.in-Arrive.number c.in-Arrive.branch c.in-Err.refusal c.in-Err.ensures.refused.0 (ap view c.in-Err.ensures.refused.1))
 
--- src/standing.rt:64:1
-pub returns-in-Err-clause-kept : goal.returns-in-Err-clause-kept
-returns-in-Err-clause-kept g c = ?
-
--- src/standing.rt:64:1
 pub returns-in-Tick-clause-answered : goal.returns-in-Tick-clause-answered
-returns-in-Tick-clause-answered g c = ?
+returns-in-Tick-clause-answered g c = λ by l es tags keeps.
+    subst (λ (k : Call). Goes by (jobs c.args.board.now.board.residents) l es (view c.args.board.now) (view c.tick.new.board) keeps k c.tick.result) (sym c.in-Tick.is) (c.tick.ensures.answered by l es tags keeps)
 
--- src/standing.rt:64:1
 pub returns-in_default : goal.returns-in_default
-returns-in_default g c = ?
+returns-in_default g c = record {
+  answered = λ by l es tags keeps. (es, running_takes_not by c.args.call.now c.requires (λ n b. c.in_default.not-Arrive n b) (λ served done. c.in_default.not-Tick served done), keeps);
+  kept = search rules;
+}

@@ -1,27 +1,24 @@
-use Rattle.std.proofs.Common.{rules, ◌≡◌, length, false, true, Some, None, List, ℕ, ◌+◌, ◌-◌, ◌*◌, ◌<◌, ◌≤◌, ◌/◌, ◌%◌, Bool, nat_eq, nat_lt, [], ◌∷◌, ◌++◌, slice_index_or, slice_set, bit_and, bit_or, Fits, w8, w32, w64, Bor, MutBor}
-use Rattle.board.specs.Placing.{Rules}
-use Rattle.board.specs.Residents.{jobs}
-use Rattle.dispatch.specs.Kept.{kept}
-use Rattle.life.specs.Answered.{Answered, ticked}
-use Rattle.life.specs.declared.call.Call.TheVariants.{Tick}
-use Rattle.life.specs.InStep.{InStep, board_of, late_of, stands, turns}
-use Rattle.life.specs.Standing.{Listing, running, state_of, stopped}
-use Rattle.running.specs.View.{view}
-use Rattle.runs.specs.Events.{Event}
+use Rattle.std.proofs.Common.{rules, ◌≡◌, sym, ap, ◌∙◌}
+use Rattle.life.specs.InStep.{board_of}
+use Rattle.life.proofs.Answering.{turn_not_running, turn_not_stopped, turn_start, turn_stop}
 use Rattle.life.proofs.standing.Standing.turned.Goals as goal
 
--- src/standing.rt:93:5
 pub returns-in-Start-clause-answered : goal.returns-in-Start-clause-answered
-returns-in-Start-clause-answered g c = ?
+returns-in-Start-clause-answered g c = λ by es keeps.
+    turn_start by g.O.EngineOrder.listing c.args.self c.args.call.now c.in-Stopped.board c.start.result es c.in-Stopped.is c.in-Start.is c.start.ensures.begins c.start.ensures.board
 
--- src/standing.rt:93:5
 pub returns-in_default : goal.returns-in_default
-returns-in_default g c = ?
+returns-in_default g c = record {
+  answered = λ by es keeps. turn_not_stopped by g.O.EngineOrder.listing c.args.self c.args.call.now c.in-Stopped.board es c.in-Stopped.is c.requires c.in_default.not-Start;
+  kept = ap board_of (sym c.in-Stopped.is);
+}
 
--- src/standing.rt:93:5
 pub returns-in-Stop-clause-answered : goal.returns-in-Stop-clause-answered
-returns-in-Stop-clause-answered g c = ?
+returns-in-Stop-clause-answered g c = λ by es keeps.
+    turn_stop by g.O.EngineOrder.listing c.args.self c.args.call.now c.in-Running.board c.stop.result es c.in-Running.is c.in-Stop.is c.stop.ensures
 
--- src/standing.rt:93:5
 pub returns-in_default-call : goal.returns-in_default-call
-returns-in_default-call g c = ?
+returns-in_default-call g c = record {
+  answered = λ by es keeps. turn_not_running by g.O.EngineOrder.listing c.args.self c.args.call.now c.in-Running.board es c.in-Running.is keeps c.requires c.in_default-call.not-Stop;
+  kept = ap board_of (sym c.in-Running.is);
+}
