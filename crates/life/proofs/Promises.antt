@@ -66,7 +66,7 @@ module _ (rules : Rules) (lawful : LawfulRules rules) where
   stays s t call answer sound starts = sound
   stays s t call answer sound (arrives g) = sound
   stays s t call answer sound (refuses_arrival f) = sound
-  stays s t call answer sound (ticks g r n) = sound
+  stays s t call answer sound (ticks g long r n) = sound
   stays s t call answer sound (refuses_tick f) = sound
   stays s t call answer sound stops = sound
   stays s t call answer sound (not_taken refused) = sound
@@ -91,7 +91,7 @@ module _ (rules : Rules) (lawful : LawfulRules rules) where
   exactly s t call answer sound starts = tt
   exactly s t call answer sound (arrives g) = tt
   exactly s t call answer sound (refuses_arrival f) = tt
-  exactly s t call answer sound (ticks g r n) = tt
+  exactly s t call answer sound (ticks g long r n) = tt
   exactly s t call answer sound (refuses_tick f) = tt
   exactly s t call answer sound stops = tt
   exactly s t call answer sound (not_taken refused) = untaken s call refused
