@@ -19,10 +19,10 @@ use Rattle.life.specs.declared.any_board.AnyBoard.{AnyBoard as Code}
 use Rattle.life.specs.declared.any_board.AnyBoard.TheVariants.{Running, Stopped}
 use Rattle.life.specs.InStep.{InStep, stands, turns}
 use Rattle.life.specs.Standing.{at, Listing, running, Standing, state_of, stopped}
-use Rattle.life.proofs.Keeping.{arrival_refused, keeps_arrival, keeps_tick, ran_kept, state_more, tick_granted, tick_refused}
+use Rattle.life.proofs.Keeping.{arrival_refused, keeps_arrival, keeps_tick, ran_kept, tick_refused}
 use Rattle.resident.specs.declared.resident.Resident.{Resident}
 use Rattle.running.specs.Arriving.{ArriveRefused}
-use Rattle.running.specs.Ticking.{NoOther, Ran, TickRefused}
+use Rattle.running.specs.Ticking.{Ran, TickRefused}
 use Rattle.running.specs.declared.running.Running.{Running as RunningBoard}
 use Rattle.running.specs.View.{view}
 use Rattle.runs.specs.Events.{arrive, Event, granted, start, step}

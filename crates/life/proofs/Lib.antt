@@ -9,3 +9,4 @@ pub mod Outcomes
 pub mod Alike
 pub mod Arrivals
 pub mod OneAnswer
+pub mod Determining

@@ -1,14 +1,14 @@
 -- Boards that are alike answer a call alike.
-use Rattle.std.proofs.Common.{◌≡◌, ℕ, ◌+◌, ◌<◌, ◌≤◌, Bool, true, false, cond, List, [], ◌∷◌, ◌++◌, map, length, IsSome, Option, Some, None, refl, sym, ap, ◌∙◌, subst, inl, inr, ◌⊎◌, arith}
-use Rattle.std.specs.Prelude.{slice_index_or, unwrap_or}
+use Rattle.std.proofs.Common.{◌≡◌, ℕ, Bool, true, false, List, [], ◌∷◌, ◌++◌, length, IsSome, Option, None, refl, sym, ap, ◌∙◌, subst, inl, inr, ◌⊎◌, arith}
+use Rattle.std.specs.Prelude.{unwrap_or}
 use Rattle.std.proofs.Math.Path.{fun_ext}
 use Rattle.std.proofs.lemmas.List.{ext_get_or}
 use Rattle.board.proofs.Determining.{engines_one, load_determined}
 use Rattle.board.specs.declared.refusal.Refusal.{Refusal}
 use Rattle.board.specs.declared.refusal.Refusal.TheVariants.{Fault, NumberTaken, BoardFull, NoChoice, NoPlacement, NotResident, NoBranch, TooSoon, NoEngine, LastClock, ShortBuffer}
-use Rattle.board.specs.Determined.{Alike, Complete, Determined, SameJob}
-use Rattle.board.specs.Loading.{IsLoaded, LoadRefused, Takes}
-use Rattle.board.specs.Placing.{Rules, tellings}
+use Rattle.board.specs.Determined.{Complete, Determined}
+use Rattle.board.specs.Loading.{IsLoaded, LoadRefused}
+use Rattle.board.specs.Placing.{Rules}
 use Rattle.board.specs.Residents.{others, resident_of}
 use Rattle.board.specs.Unloading.{UnloadRefused}
 use Rattle.dispatch.specs.declared.candidate.Next.{Next}
@@ -16,7 +16,7 @@ use Rattle.life.specs.declared.call.Answer.{Answer}
 use Rattle.life.specs.declared.call.Answer.TheVariants.{Done, Loaded, NotTaken, Refused, Ticked}
 use Rattle.life.specs.declared.call.Call.{Call}
 use Rattle.life.specs.declared.call.Call.TheVariants.{Arrive, Load, Start, Stop, Tick, Unload}
-use Rattle.life.specs.Answered.{Answered, ticked}
+use Rattle.life.specs.Answered.{ticked}
 use Rattle.running.specs.Arriving.{ArriveRefused}
 use Rattle.running.specs.Ticking.{NoOther, Ran, SomeOther, TickRefused}
 use Rattle.life.specs.Standing.{at, Listing, running, Standing, state_of, stopped}
@@ -27,16 +27,15 @@ use Rattle.seated.specs.Lasting.{Placed}
 use Rattle.dispatch.specs.Ticking.{masked}
 use Rattle.std.proofs.lemmas.Bool.{or_from}
 use Rattle.life.proofs.Moving.{loaded_moves, refused_moves}
-use Rattle.life.proofs.Outcomes.{Kept, LoadedTo, Outcome, outcome, Refuses, TickedTo}
+use Rattle.life.proofs.Outcomes.{Kept, LoadedTo, Outcome, Refuses, TickedTo}
 use Rattle.life.proofs.Same.{job_same}
 use Rattle.plan.specs.Plan.{IsPlan}
 use Rattle.resident.specs.declared.resident.Resident.{Resident}
-use Rattle.resident.specs.Resident.{engine_of, number_of}
-use Rattle.runs.specs.Events.{arrive, Event, play, start, tick}
+use Rattle.runs.specs.Events.{arrive, Event, play, start}
 use Rattle.runs.specs.Job.{Job as Run}
 use Rattle.runs.specs.Runs.{Granted}
 use Rattle.runs.specs.State.{State}
-use Rattle.seated.specs.Jobs.{job_at, job_of, jobs_of, seat_of}
+use Rattle.seated.specs.Jobs.{job_at, seat_of}
 use Rattle.text.proofs.Only.{one_job}
 
 -- how two boards stand alike
@@ -49,7 +48,7 @@ SameStanding (running rs l es) (running qs k fs) = AllTwins rs qs × (l ≡ k) �
 abbrev pub SameOutcome : Answer → Answer → Standing → Standing → Type 0
 SameOutcome a b t u = (a ≡ b) × SameStanding t u
 
-state_same : (rs qs : List Resident) (es : List Event) → AllTwins rs qs → state_of rs es ≡ state_of qs es
+pub state_same : (rs qs : List Resident) (es : List Event) → AllTwins rs qs → state_of rs es ≡ state_of qs es
 state_same rs qs es all = ap (λ js. play (start js) es) (twins_jobs rs qs all)
 
 kept_same : (answer : Answer) (x y t u : Standing) (a b : Answer) → SameStanding x y → Kept answer x a t → Kept answer y b u → SameOutcome a b t u

@@ -1,4 +1,4 @@
-use Rattle.std.proofs.Common.{rules, ◌≡◌, ℕ, ◌<◌, length, ap, subst, sym, ◌∙◌, List}
+use Rattle.std.proofs.Common.{◌≡◌, ℕ, ◌<◌, length, ap, subst, sym, List}
 use Rattle.board.specs.Residents.{jobs}
 use Rattle.life.specs.Standing.{state_of}
 use Rattle.life.proofs.Answering.{tick_done, tick_not}
