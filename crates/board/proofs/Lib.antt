@@ -4,3 +4,4 @@ pub mod Stating
 pub mod Listed
 pub mod Steps
 pub mod Determining
+pub mod Rooms
