@@ -144,6 +144,8 @@ impl<P: Supply, R: SlackRule, O: EngineOrder> Board<P, R, O> {
     }
 
     /// The same by what engines have left, where there are places for that.
+    // Not inlined, so that a load without need of it has no room for its table.
+    #[inline(never)]
     fn first_by_rooms(
         &self,
         tag: u32,
@@ -232,6 +234,8 @@ impl<P: Supply, R: SlackRule, O: EngineOrder> Board<P, R, O> {
     }
 
     /// The same, by what engines have left.
+    // Not inlined, so that a load without need of it has no room for its tables.
+    #[inline(never)]
     fn place_by_rooms(&self, job: &Job) -> Option<Resident>
         ensures { MatchOption result ((c : ℕ) → c < numbers Choice (graph job.now) → CannotBePlaced (record { tags = P.Roster.tags self.now.platform; supply = P.Supply.supply self.now.platform; local = R.SlackRule.local self.now.rule; listing = O.EngineOrder.listing self.now.order }) (jobs self.now.residents) job.now c) (Places (record { tags = P.Roster.tags self.now.platform; supply = P.Supply.supply self.now.platform; local = R.SlackRule.local self.now.rule; listing = O.EngineOrder.listing self.now.order }) (jobs self.now.residents) job.now) }
     {

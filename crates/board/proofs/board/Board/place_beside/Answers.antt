@@ -129,4 +129,3 @@ returns-in-choices-clause-placed g c =
       };
       none_before = λ b low. c.choices.invariant.before b (omega (arith, is));
     }
-
