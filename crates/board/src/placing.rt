@@ -66,7 +66,7 @@ impl<P: Supply, R: SlackRule, O: EngineOrder> Board<P, R, O> {
         Room::beside(&self.platform, engine, &claims.as_slice()[1..])
     }
 
-    /// The same by what the engine has left beside the residents, which is found out where it is not known.
+    /// The same by what the residents leave on the engine, which is found out where it is not known.
     fn shortage_by_room(
         &self,
         engine: usize,
@@ -143,8 +143,8 @@ impl<P: Supply, R: SlackRule, O: EngineOrder> Board<P, R, O> {
         Ok(None)
     }
 
-    /// The same by what engines have left, where there are places for that.
-    // Not inlined, so that a load without need of it has no room for its table.
+    /// The same by what the residents leave on engines, where there are places for that.
+    // Not inlined, since its table would lie in the frame of every load.
     #[inline(never)]
     fn first_by_rooms(
         &self,
@@ -160,14 +160,14 @@ impl<P: Supply, R: SlackRule, O: EngineOrder> Board<P, R, O> {
         ensures settled { 16 ≤ length rooms.old → IsOk result }
         ensures long { length rooms.new ≡ length rooms.old }
     {
+        if rooms.len() < ENGINES {
+            return Err(Unsettled);
+        }
         let demands = Demands::of(claim);
         for place in 0..ENGINES {
             let Some(engine) = self.order.place(&self.platform, tag, loads, place) else {
                 return Ok(None);
             };
-            if rooms.len() <= engine {
-                return Err(Unsettled);
-            }
             let Some(ticks) = self.shortage_by_room(engine, claim, &demands, &mut rooms[engine])
             else {
                 return Ok(Some(engine));
@@ -177,7 +177,7 @@ impl<P: Supply, R: SlackRule, O: EngineOrder> Board<P, R, O> {
         Ok(None)
     }
 
-    /// The same by walks, and by what engines have left where a walk is too long.
+    /// The same by walks, and by what the residents leave where a walk is too long.
     fn first_fit(
         &self,
         tag: u32,
@@ -198,7 +198,7 @@ impl<P: Supply, R: SlackRule, O: EngineOrder> Board<P, R, O> {
         }
     }
 
-    /// The job under its first possible choice that can be placed, where each walk is short or there are places for what engines have left.
+    /// The job under its first possible choice that can be placed, where no walk is too long or there are places for what the residents leave.
     fn place_beside(
         &self,
         job: &Job,
@@ -233,8 +233,8 @@ impl<P: Supply, R: SlackRule, O: EngineOrder> Board<P, R, O> {
         Ok(None)
     }
 
-    /// The same, by what engines have left.
-    // Not inlined, so that a load without need of it has no room for its tables.
+    /// The same, with places for what the residents leave.
+    // Not inlined, since its tables would lie in the frame of every load.
     #[inline(never)]
     fn place_by_rooms(&self, job: &Job) -> Option<Resident>
         ensures { MatchOption result ((c : ℕ) → c < numbers Choice (graph job.now) → CannotBePlaced (record { tags = P.Roster.tags self.now.platform; supply = P.Supply.supply self.now.platform; local = R.SlackRule.local self.now.rule; listing = O.EngineOrder.listing self.now.order }) (jobs self.now.residents) job.now c) (Places (record { tags = P.Roster.tags self.now.platform; supply = P.Supply.supply self.now.platform; local = R.SlackRule.local self.now.rule; listing = O.EngineOrder.listing self.now.order }) (jobs self.now.residents) job.now) }
@@ -247,7 +247,7 @@ impl<P: Supply, R: SlackRule, O: EngineOrder> Board<P, R, O> {
     pub(crate) fn place(&self, job: &Job) -> Option<Resident>
         ensures { MatchOption result ((c : ℕ) → c < numbers Choice (graph job.now) → CannotBePlaced (record { tags = P.Roster.tags self.now.platform; supply = P.Supply.supply self.now.platform; local = R.SlackRule.local self.now.rule; listing = O.EngineOrder.listing self.now.order }) (jobs self.now.residents) job.now c) (Places (record { tags = P.Roster.tags self.now.platform; supply = P.Supply.supply self.now.platform; local = R.SlackRule.local self.now.rule; listing = O.EngineOrder.listing self.now.order }) (jobs self.now.residents) job.now) }
     {
-        // What engines have left takes much memory, so it is not written where no walk is long.
+        // What the residents leave takes much memory, which is not touched where no walk is too long.
         match self.place_beside(job, &mut []) {
             Ok(placed) => placed,
             Err(Unsettled) => self.place_by_rooms(job),

@@ -24,14 +24,20 @@ returns-in_default-clause-first g c =
     let place = c.loop-place.place in
     λ p states. ended_nowhere ruled rs p tag es each place (c.loop-place.invariant.before p states) (sym c.place.ensures ∙ c.in_default.is)
 
-pub returns-then-rooms-engine-clause-settled : goal.returns-then-rooms-engine-clause-settled
-returns-then-rooms-engine-clause-settled g c =
+pub bounds-rooms-engine : goal.bounds-rooms-engine
+bounds-rooms-engine g c =
     let low = listed_low (g.P.Roster.tags c.args.self.now.platform) c.args.tag _ (g.P.Roster.rostered c.args.self.now.platform) (g.O.EngineOrder.complete c.args.self.now.order [] (g.P.Roster.tags c.args.self.now.platform) c.args.tag c.args.loads.now) c.loop-place.place c.in-Some.engine (sym c.place.ensures ∙ c.in-Some.is) in
-    λ long. absurd (omega (arith, low, c.if-rooms-engine.true, c.loop-place.invariant.long))
+    omega (arith, low, c.loop-place.invariant.long)
+
+pub offset_bounds-rooms-engine : goal.offset_bounds-rooms-engine
+offset_bounds-rooms-engine g c =
+    let low = listed_low (g.P.Roster.tags c.args.self.now.platform) c.args.tag _ (g.P.Roster.rostered c.args.self.now.platform) (g.O.EngineOrder.complete c.args.self.now.order [] (g.P.Roster.tags c.args.self.now.platform) c.args.tag c.args.loads.now) c.loop-place.place c.in-Some.engine (sym c.place.ensures ∙ c.in-Some.is) in
+    omega (arith, low)
 
 pub shortage_by_room-requires-clause-known : goal.shortage_by_room-requires-clause-known
 shortage_by_room-requires-clause-known g c =
-    room_at (g.P.Supply.supply c.args.self.now.platform) (jobs c.args.self.now.residents) c.loop-place.rooms c.loop-place.invariant.rooms c.in-Some.engine (omega (arith, c.if-rooms-engine.false))
+    let low = listed_low (g.P.Roster.tags c.args.self.now.platform) c.args.tag _ (g.P.Roster.rostered c.args.self.now.platform) (g.O.EngineOrder.complete c.args.self.now.order [] (g.P.Roster.tags c.args.self.now.platform) c.args.tag c.args.loads.now) c.loop-place.place c.in-Some.engine (sym c.place.ensures ∙ c.in-Some.is) in
+    room_at (g.P.Supply.supply c.args.self.now.platform) (jobs c.args.self.now.residents) c.loop-place.rooms c.loop-place.invariant.rooms c.in-Some.engine (omega (arith, low, c.loop-place.invariant.long))
 
 pub returns-in_default-shortage_by_room-clause-first : goal.returns-in_default-shortage_by_room-clause-first
 returns-in_default-shortage_by_room-clause-first g c = λ p states. record {
@@ -48,6 +54,11 @@ returns-in_default-shortage_by_room-clause-rooms g c =
 pub bounds-short-engine : goal.bounds-short-engine
 bounds-short-engine g c =
     listed_low (g.P.Roster.tags c.args.self.now.platform) c.args.tag _ (g.P.Roster.rostered c.args.self.now.platform) (g.O.EngineOrder.complete c.args.self.now.order [] (g.P.Roster.tags c.args.self.now.platform) c.args.tag c.args.loads.now) c.loop-place.place c.in-Some.engine (sym c.place.ensures ∙ c.in-Some.is)
+
+pub offset_bounds-short-engine : goal.offset_bounds-short-engine
+offset_bounds-short-engine g c =
+    let low = listed_low (g.P.Roster.tags c.args.self.now.platform) c.args.tag _ (g.P.Roster.rostered c.args.self.now.platform) (g.O.EngineOrder.complete c.args.self.now.order [] (g.P.Roster.tags c.args.self.now.platform) c.args.tag c.args.loads.now) c.loop-place.place c.in-Some.engine (sym c.place.ensures ∙ c.in-Some.is) in
+    omega (arith, low)
 
 pub loop-place-preserved : goal.loop-place-preserved
 loop-place-preserved g c =
