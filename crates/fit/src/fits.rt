@@ -16,7 +16,7 @@ use engine::supply::{FARTHEST, Supply};
 const CYCLE: u32 = 14_400;
 
 /// How many numbers of ticks a walk looks at.
-const STEPS: usize = 64;
+const STEPS: usize = 128;
 
 /// Of how many claims a walk keeps the plateaus; the claims after these are asked anew each time. A board passes no more.
 const KEPT: usize = 129;
