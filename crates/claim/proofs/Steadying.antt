@@ -1,10 +1,10 @@
 -- Once all that an arrival asks has fallen due, a period more asks for one whole arrival more.
-use Rattle.std.proofs.Common.{◌≡◌, ℕ, zero, suc, ◌+◌, ◌-◌, ◌*◌, ◌/◌, ◌≤◌, max, List, [], ◌∷◌, length, refl, sym, ap, ◌∙◌, arith}
+use Rattle.std.proofs.Common.{◌≡◌, ℕ, ◌+◌, ◌-◌, ◌*◌, ◌/◌, ◌≤◌, max, List, [], ◌∷◌, length, refl, sym, ap, ◌∙◌, arith}
 use Rattle.std.proofs.Math.Nat.{add-div_right}
 use Rattle.few.specs.Few.{items}
 use Rattle.claim.specs.declared.claim.Claim.{Claim}
 use Rattle.claim.specs.declared.claim.Cut.{Cut}
-use Rattle.claim.specs.Asking.{Steady, all_due, ended, given, given_at, given_later, step, whole_ones}
+use Rattle.claim.specs.Asking.{Steady, all_due, ended, given_at, given_later, step, whole_ones}
 use Rattle.claim.specs.Claim.{by_end}
 use Rattle.claim.proofs.Reaching.{by_step, ended_cons, one_ended}
 use Rattle.theory.specs.Demand.{greatest}

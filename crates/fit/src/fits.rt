@@ -113,7 +113,12 @@ pub fn is_short<P: Supply>(platform: &P, engine: usize, claims: &[&Claim], ticks
 }
 
 /// A number of ticks in which the claims ask for more than the engine serves; nothing where there is no such number. `near` is tried first.
-pub fn shortage<P: Supply>(platform: &P, engine: usize, claims: &[&Claim], near: u32) -> Result<Option<u32>, Unsettled>
+pub fn shortage<P: Supply>(
+    platform: &P,
+    engine: usize,
+    claims: &[&Claim],
+    near: u32,
+) -> Result<Option<u32>, Unsettled>
     ensures fits { IfOk result (λ known. (ps : List Pattern) → Stated ps (map (λ c. c.now) claims.now) → IsNone known ↔ Fits (P.Supply.supply platform.now engine) ps) }
     ensures paced { IfOk result (λ known. (ps : List Pattern) → Stated ps (map (λ c. c.now) claims.now) → IsNone known → Paced (map (λ c. c.now) claims.now)) }
     ensures short { IfOk result (λ known. IfSome known (λ n. (n ≤ 28800) × Short (P.Supply.supply platform.now engine) (map (λ c. c.now) claims.now) n)) }

@@ -1,9 +1,8 @@
-use Rattle.std.proofs.Common.{◌≡◌, ℕ, Bool, cond, true, false, [], ◌∷◌, refl, sym, ap, ◌∙◌, arith, rules}
-use Rattle.std.specs.Prelude.{slice_get, is_some}
+use Rattle.std.proofs.Common.{[], sym, ◌∙◌, arith}
 use Rattle.board.specs.Placing.{Rules}
 use Rattle.board.specs.Residents.{jobs}
 use Rattle.board.proofs.Listed.{listed_low}
-use Rattle.board.proofs.Steps.{ended_nowhere, none_next, past_nowhere}
+use Rattle.board.proofs.Steps.{ended_nowhere, past_nowhere}
 use Rattle.board.proofs.board.Board.first_by_walks.Goals as goal
 
 pub returns-in_default : goal.returns-in_default

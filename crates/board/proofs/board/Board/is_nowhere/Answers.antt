@@ -1,4 +1,4 @@
-use Rattle.std.proofs.Common.{◌≡◌, ℕ, min, slice_index, subst, sym, inl, inr, arith}
+use Rattle.std.proofs.Common.{ℕ, min, slice_index, subst, sym, inl, inr, arith}
 use Rattle.std.proofs.lemmas.Bool.{cases_eq}
 use Rattle.board.specs.Placing.{ShortOn}
 use Rattle.board.specs.Residents.{jobs}

@@ -1,10 +1,9 @@
-use Rattle.std.proofs.Common.{◌≡◌, ◌∷◌, rules, sym, ap, ◌∙◌, subst, List}
+use Rattle.std.proofs.Common.{◌∷◌, rules, sym, subst}
 use Rattle.board.specs.Asked.{asked_on, claims_on}
 use Rattle.board.specs.Residents.{jobs}
 use Rattle.board.proofs.Stating.{stated_on}
-use Rattle.claim.specs.declared.claim.Claim.{Claim}
 use Rattle.fit.specs.Room.{Leaves}
-use Rattle.fit.specs.Stated.{Stated, States}
+use Rattle.fit.specs.Stated.{States}
 use Rattle.board.proofs.board.Board.shortage_by_room.Goals as goal
 
 pub returns-clause-fits : goal.returns-clause-fits

@@ -1,4 +1,4 @@
-use Rattle.std.proofs.Common.{rules, ◌≡◌, ℕ, ◌+◌, ◌≤◌, min, take, ap, subst, List, arith}
+use Rattle.std.proofs.Common.{rules, ◌≡◌, ℕ, ◌+◌, min, take, ap, subst, List, arith}
 use Rattle.std.proofs.lemmas.List.{length-map, take_all}
 use Rattle.claim.specs.declared.claim.Claim.{Claim}
 use Rattle.claim.specs.Asking.{given}
