@@ -1,5 +1,5 @@
 //! Placing a job on the engines of a board.
-ghost use Rattle.std.specs.Prelude.{◌≡◌, ℕ, ◌<◌, ◌≤◌, ◌↔◌, [], ◌∷◌, IfOk, IfSome, IsNone, IsOk, IsSomeAnd, IsTrue, MatchOption, Some, length, min, slice_index};
+ghost use Rattle.std.specs.Prelude.{◌≡◌, ℕ, ◌<◌, ◌≤◌, ◌↔◌, [], ◌∷◌, IfOk, IfSome, IsNone, IsOk, IsTrue, MatchOption, Some, length, min, slice_index};
 ghost use Rattle.board.specs.Asked.{claims_on};
 ghost use Rattle.board.specs.Placing.{CannotBePlaced, FirstOf, FitsOn, KnownStuck, Places, RoomsOn, ShortOn};
 ghost use Rattle.board.specs.Residents.{jobs};
