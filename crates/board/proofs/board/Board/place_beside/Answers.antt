@@ -2,6 +2,7 @@ use Rattle.std.proofs.Common.{rules, ◌≡◌, ℕ, List, min, slice_index, [],
 use Rattle.std.specs.List.{All}
 use Rattle.std.proofs.lemmas.List.{map-append}
 use Rattle.board.specs.Placing.{FirstFit, FirstOf, Rules, Sits}
+use Rattle.board.proofs.Listed.{listed_low}
 use Rattle.board.proofs.Stating.{fits_paced, part_states}
 use Rattle.board.proofs.Steps.{all_push, next_below, seats_room, some_is, tag_put, tag_skip}
 use Rattle.board.specs.Residents.{jobs}
@@ -103,12 +104,14 @@ loop-tag-preserved g c =
     let put : items c.push.new.self ≡ was ++ seat ∷ [] = search rules in
     let has = some_is (part_of plan tag) c.in-Some-of.ensures.0 in
     let found = subst (FirstOf ruled rs p tag (ruled.listing [] ruled.tags tag c.loads-loads.result)) c.in-Some-2.is (c.in_ok-engine.ensures.first p states) in
+    let low = listed_low ruled.tags tag (ruled.listing [] ruled.tags tag c.loads-loads.result) (g.P.Roster.rostered me.platform) (g.O.EngineOrder.complete me.order [] ruled.tags tag c.loads-loads.result) found.place e found.there in
     let sits : Sits ruled rs plan seat = subst (λ (ls : List ℕ). FirstFit ruled rs p (ruled.listing [] ruled.tags tag ls) e) c.loads-loads.ensures found in
     record {
       tags = ap (map (λ (s : Seat). s.tag)) put ∙ map-append (λ (s : Seat). s.tag) was (seat ∷ []) ∙ ap (λ ts. ts ++ tag ∷ []) inv.tags ∙ sym (tag_put plan tag c.loop-tag-test.true has);
       fair = subst (All (Fair plan)) (sym put) (all_push (Fair plan) was seat inv.fair (record {
         claims = c.in-Some-of.ensures.1;
         paced = fits_paced (ruled.supply e) _ _ (g.P.Supply.laws me.platform e) rs e p claim states sits.fits;
+        placed = low;
       }));
       sits = subst (All (Sits ruled rs plan)) (sym put) (all_push (Sits ruled rs plan) was seat inv.sits sits);
       rooms = c.in_ok-engine.ensures.rooms;
