@@ -1,0 +1,4 @@
+pub mod Texts
+pub mod Below
+pub mod Calls
+pub mod Report
