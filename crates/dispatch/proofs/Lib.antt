@@ -4,3 +4,4 @@ pub mod Sweep
 pub mod Turning
 pub mod Arriving
 pub mod LastArrival
+pub mod Masks

@@ -4,6 +4,7 @@
 pub mod asking;
 pub mod candidate;
 pub mod choosing;
+pub mod mask;
 pub mod opening;
 pub mod phase;
 pub mod slot;

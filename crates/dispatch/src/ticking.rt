@@ -11,6 +11,7 @@ ghost use Rattle.runs.specs.Events.{step, tick};
 ghost use Rattle.runs.specs.State.{is_pending};
 
 use crate::candidate::{Candidate, Next};
+use crate::mask::is_set;
 use crate::phase::Event;
 use crate::slot::{Open, Slot};
 use crate::table::{LAST, SLOTS, Table};
@@ -18,14 +19,6 @@ use crate::tick::Tick;
 use engine::roster::ENGINES;
 use std::array;
 use task::node::{NODES, Ticks};
-
-/// Whether the bit of the engine is set.
-fn is_set(mask: u16, engine: usize) -> bool
-    requires { engine < 16 }
-    ensures { result ≡ masked mask engine }
-{
-    (mask >> engine) & 1 == 1
-}
 
 /// What runs on the engine, of which this sub-task is next.
 fn ran_by(served: u16, engine: usize, next: Option<Candidate>) -> Option<Next>

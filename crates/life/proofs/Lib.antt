@@ -5,3 +5,5 @@ pub mod Moving
 pub mod Outcomes
 pub mod Alike
 pub mod OneAnswer
+pub mod Keeping
+pub mod Answering

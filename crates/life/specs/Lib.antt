@@ -1,3 +1,4 @@
 pub mod Standing
 pub mod Answered
 pub mod Lives
+pub mod InStep

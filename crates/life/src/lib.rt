@@ -2,3 +2,5 @@
 #![tactic(auto)]
 
 pub mod call;
+pub mod live;
+mod standing;
