@@ -2,5 +2,6 @@
 #![tactic(auto)]
 
 mod calls;
+pub mod rehearse;
 mod report;
 mod texts;
