@@ -15,8 +15,8 @@ use Rattle.life.specs.declared.call.Answer.TheVariants.{Done, Loaded, NotTaken, 
 use Rattle.life.specs.declared.call.Call.{Call}
 use Rattle.life.specs.declared.call.Call.TheVariants.{Arrive, Load, Start, Stop, Tick, Unload}
 use Rattle.life.specs.Answered.{Answered, arrives, loads, not_taken, refuses_arrival, refuses_load, refuses_tick, refuses_unload, starts, stops, taken, ticked, ticks, unloads}
-use Rattle.life.specs.declared.standing.Standing.{Standing as Code}
-use Rattle.life.specs.declared.standing.Standing.TheVariants.{Running, Stopped}
+use Rattle.life.specs.declared.any_board.AnyBoard.{AnyBoard as Code}
+use Rattle.life.specs.declared.any_board.AnyBoard.TheVariants.{Running, Stopped}
 use Rattle.life.specs.InStep.{InStep, stands, turns}
 use Rattle.life.specs.Standing.{at, Listing, running, Standing, state_of, stopped}
 use Rattle.life.proofs.Keeping.{arrival_refused, keeps_arrival, keeps_tick, ran_kept, state_more, tick_granted, tick_refused}

@@ -7,3 +7,4 @@ pub mod Alike
 pub mod OneAnswer
 pub mod Keeping
 pub mod Answering
+pub mod SoFar

@@ -10,8 +10,8 @@ use Rattle.board.specs.Residents.{jobs}
 use Rattle.dispatch.specs.Kept.{kept}
 use Rattle.life.specs.declared.call.Call.{Call}
 use Rattle.life.specs.declared.call.Call.TheVariants.{Arrive, Load, Start, Stop, Tick, Unload}
-use Rattle.life.specs.declared.standing.Standing.{Standing as Code}
-use Rattle.life.specs.declared.standing.Standing.TheVariants.{Running, Stopped}
+use Rattle.life.specs.declared.any_board.AnyBoard.{AnyBoard as Code}
+use Rattle.life.specs.declared.any_board.AnyBoard.TheVariants.{Running, Stopped}
 use Rattle.life.specs.Standing.{Listing, running, Standing, state_of, stopped}
 use Rattle.running.specs.View.{view}
 use Rattle.runs.specs.Events.{Event}

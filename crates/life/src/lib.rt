@@ -3,4 +3,4 @@
 
 pub mod call;
 pub mod live;
-mod standing;
+mod any_board;

@@ -4,7 +4,7 @@ ghost use Rattle.life.specs.Lives.{Lives};
 ghost use Rattle.life.specs.Standing.{Standing, stopped};
 
 use crate::call::{Call, Entry};
-use crate::standing::Standing;
+use crate::any_board::AnyBoard;
 use board::board::Board;
 use engine::supply::Supply;
 use order::order::EngineOrder;
@@ -20,7 +20,7 @@ pub fn live<P: Supply + Drop, R: SlackRule + Drop, O: EngineOrder + Drop>(
     ensures calls { map (λ e. e.call) history.new ≡ map (λ e. e.call) history.old }
     ensures lives { (end : Standing) × Lives (record { tags = P.Roster.tags platform; supply = P.Supply.supply platform; local = R.SlackRule.local rule; listing = O.EngineOrder.listing order }) (stopped [] (O.EngineOrder.listing order)) history.new end }
 {
-    let mut standing = Standing::Stopped(Board::new(platform, rule, order));
+    let mut standing = AnyBoard::Stopped(Board::new(platform, rule, order));
     for entry in history.iter_mut() {
         entry.answer = match entry.call {
             Call::Start | Call::Stop => {

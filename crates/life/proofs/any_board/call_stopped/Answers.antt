@@ -1,6 +1,6 @@
 use Rattle.std.proofs.Common.{rules, ◌≡◌}
 use Rattle.life.proofs.Answering.{load_granted, load_refused, stopped_takes_not, unload_granted, unload_refused}
-use Rattle.life.proofs.standing.call_stopped.Goals as goal
+use Rattle.life.proofs.any_board.call_stopped.Goals as goal
 
 pub returns-in-Ok-clause-answered : goal.returns-in-Ok-clause-answered
 returns-in-Ok-clause-answered g c = λ l0. load_granted _ c.args.call.now c.in-Load.text c.in-Load.is c.in-Ok.ensures.granted

@@ -8,7 +8,7 @@ use Rattle.life.specs.declared.call.Call.TheVariants.{Arrive, Tick}
 use Rattle.life.specs.Standing.{running, state_of}
 use Rattle.life.proofs.Answering.{arrival_granted, arrival_grants, arrival_not, Goes, running_takes_not}
 use Rattle.running.specs.View.{view}
-use Rattle.life.proofs.standing.call_running.Goals as goal
+use Rattle.life.proofs.any_board.call_running.Goals as goal
 
 pub returns-in-Ok-clause-answered : goal.returns-in-Ok-clause-answered
 returns-in-Ok-clause-answered g c = λ by l es tags keeps.

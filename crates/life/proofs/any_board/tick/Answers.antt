@@ -6,7 +6,7 @@ use Rattle.life.proofs.Keeping.{tick_granted}
 use Rattle.running.specs.Ticking.{NoOther, TickRefused}
 use Rattle.running.specs.View.{view}
 use Rattle.runs.specs.State.{State}
-use Rattle.life.proofs.standing.tick.Goals as goal
+use Rattle.life.proofs.any_board.tick.Goals as goal
 
 pub returns-in-Ok-clause-answered : goal.returns-in-Ok-clause-answered
 returns-in-Ok-clause-answered g c = λ rules l es tags keeps.

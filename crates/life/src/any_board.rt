@@ -21,7 +21,7 @@ use slack::rule::SlackRule;
 
 /// A board: it does not run, or it runs.
 #[derive(Drop)]
-pub(crate) enum Standing<P, R, O> {
+pub(crate) enum AnyBoard<P, R, O> {
     Stopped(Board<P, R, O>),
     Running(Running<P, R, O>),
 }
@@ -76,7 +76,7 @@ fn call_running<P: Roster, R, O>(board: &mut Running<P, R, O>, call: &Call<'_>) 
     }
 }
 
-impl<P: Supply, R: SlackRule, O: EngineOrder> Standing<P, R, O> {
+impl<P: Supply, R: SlackRule, O: EngineOrder> AnyBoard<P, R, O> {
     /// Makes a call that neither starts nor stops a board.
     pub(crate) fn call(&mut self, call: &Call<'_>) -> Answer
         requires { turns call.now ≡ false }
@@ -84,28 +84,28 @@ impl<P: Supply, R: SlackRule, O: EngineOrder> Standing<P, R, O> {
         ensures kept { ((board_of self.new).platform ≡ (board_of self.old).platform) × ((board_of self.new).rule ≡ (board_of self.old).rule) }
     {
         match self {
-            Standing::Stopped(board) => call_stopped(board, call),
-            Standing::Running(board) => call_running(board, call),
+            AnyBoard::Stopped(board) => call_stopped(board, call),
+            AnyBoard::Running(board) => call_running(board, call),
         }
     }
 
     /// Starts or stops the board, as the call says.
-    pub(crate) fn turned(self, call: &Call<'_>) -> (Standing<P, R, O>, Answer)
+    pub(crate) fn turned(self, call: &Call<'_>) -> (AnyBoard<P, R, O>, Answer)
         requires { turns call.now ≡ true }
         ensures answered { (rules : Rules) (es : List Event) → InStep self es → (fs : List Event) × Answered rules (stands O.EngineOrder.listing self es) call.now result.1 (stands O.EngineOrder.listing result.0 fs) × InStep result.0 fs }
         ensures kept { board_of result.0 ≡ board_of self }
     {
         match self {
-            Standing::Stopped(board) => match *call {
+            AnyBoard::Stopped(board) => match *call {
                 Call::Start => (
-                    Standing::Running(Running::start(board)),
+                    AnyBoard::Running(Running::start(board)),
                     Answer::Done,
                 ),
-                _ => (Standing::Stopped(board), Answer::NotTaken),
+                _ => (AnyBoard::Stopped(board), Answer::NotTaken),
             },
-            Standing::Running(board) => match *call {
-                Call::Stop => (Standing::Stopped(board.stop()), Answer::Done),
-                _ => (Standing::Running(board), Answer::NotTaken),
+            AnyBoard::Running(board) => match *call {
+                Call::Stop => (AnyBoard::Stopped(board.stop()), Answer::Done),
+                _ => (AnyBoard::Running(board), Answer::NotTaken),
             },
         }
     }
@@ -115,8 +115,8 @@ impl<P: Supply, R: SlackRule, O: EngineOrder> Standing<P, R, O> {
         ensures { result ≡ late_of self.now }
     {
         match self {
-            Standing::Stopped(_) => None,
-            Standing::Running(board) => Some(board.late_total()),
+            AnyBoard::Stopped(_) => None,
+            AnyBoard::Running(board) => Some(board.late_total()),
         }
     }
 }

@@ -1,7 +1,7 @@
 use Rattle.std.proofs.Common.{rules, ◌≡◌, sym, ap, ◌∙◌}
 use Rattle.life.specs.InStep.{board_of}
 use Rattle.life.proofs.Answering.{turn_not_running, turn_not_stopped, turn_start, turn_stop}
-use Rattle.life.proofs.standing.Standing.turned.Goals as goal
+use Rattle.life.proofs.any_board.AnyBoard.turned.Goals as goal
 
 pub returns-in-Start-clause-answered : goal.returns-in-Start-clause-answered
 returns-in-Start-clause-answered g c = λ by es keeps.

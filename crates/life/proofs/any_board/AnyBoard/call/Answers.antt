@@ -4,13 +4,13 @@ use Rattle.board.specs.Placing.{Rules}
 use Rattle.board.specs.Residents.{jobs}
 use Rattle.dispatch.specs.Kept.{kept}
 use Rattle.life.specs.Answered.{Answered}
-use Rattle.life.specs.declared.standing.Standing.{Standing as Code}
-use Rattle.life.specs.declared.standing.Standing.TheVariants.{Running}
+use Rattle.life.specs.declared.any_board.AnyBoard.{AnyBoard as Code}
+use Rattle.life.specs.declared.any_board.AnyBoard.TheVariants.{Running}
 use Rattle.life.specs.InStep.{InStep, board_of, stands}
 use Rattle.life.specs.Standing.{running, state_of}
 use Rattle.running.specs.View.{view}
 use Rattle.runs.specs.Events.{Event}
-use Rattle.life.proofs.standing.Standing.call.Goals as goal
+use Rattle.life.proofs.any_board.AnyBoard.call.Goals as goal
 
 pub returns-in-Running-clause-answered : goal.returns-in-Running-clause-answered
 returns-in-Running-clause-answered g c = λ l0 es.
