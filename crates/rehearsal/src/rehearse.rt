@@ -15,7 +15,11 @@ use slack::proportional::Proportional;
 use std::alloc::{AllocError, Global};
 
 /// The history of a board from new on: it loads the texts that are left of an input, runs for a belt cycle, and lets the jobs go.
-fn play<'a>(heap: Global, platform: Calendar, left: Option<&'a [u8]>) -> Result<Vec<Entry<'a>>, AllocError>
+fn play<'a>(
+    heap: Global,
+    platform: Calendar,
+    left: Option<&'a [u8]>,
+) -> Result<Vec<Entry<'a>>, AllocError>
     ensures { IfOk result (λ es. Plays platform (option_map (λ x. x.now) left.entry) es.items) }
 {
     let texts = parted(heap, left)?;
