@@ -5,3 +5,4 @@ pub mod Listed
 pub mod Steps
 pub mod Determining
 pub mod Numbers
+pub mod Rooms

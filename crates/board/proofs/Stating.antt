@@ -10,8 +10,10 @@ use Rattle.few.specs.Few.{items}
 use Rattle.board.specs.Asked.{asked_by, asked_on, claims_on}
 use Rattle.board.proofs.Asking.{claims_of, is_on}
 use Rattle.claim.specs.declared.claim.Claim.{Claim}
-use Rattle.fit.specs.Fits.{Paced, in_cycle}
+use Rattle.engine.specs.Supply.{Lawful}
+use Rattle.fit.specs.Fits.{Fits, Paced, in_cycle}
 use Rattle.fit.specs.Stated.{Stated, States}
+use Rattle.fit.proofs.Pacing.{paced}
 use Rattle.plan.specs.declared.plan.Plan.{Plan}
 use Rattle.plan.specs.Pattern.{part_pattern}
 use Rattle.plan.proofs.Formed.{part_formed, period_divides}
@@ -49,5 +51,9 @@ stated_on (r ∷ rs) e =
     rw (flat_map-cons (λ (x : Resident). asked_by x e) r rs, flat_map-cons (λ (x : Resident). claims_of e (items x.seats)) r rs)
     (stated_append (asked_by r e) (asked_on rs e) (claims_of e (items r.seats)) (claims_on rs e) (seats_stated r.plan e (items r.seats) r.seated) (stated_on rs e))
 
-pub first_paced : (c : Claim) (cs : List Claim) → Paced (c ∷ cs) → in_cycle c ≤ 14400
+first_paced : (c : Claim) (cs : List Claim) → Paced (c ∷ cs) → in_cycle c ≤ 14400
 first_paced c cs paced = omega (arith, sum_by-cons in_cycle c cs)
+
+-- a claim that fits beside residents is paced
+pub fits_paced : (s : ℕ → ℕ) (cycle quota : ℕ) → Lawful s cycle quota → (rs : List Resident) (e : ℕ) (p : Pattern) (c : Claim) → States p c → Fits s (p ∷ asked_on rs e) → in_cycle c ≤ 14400
+fits_paced s cycle quota law rs e p c states fit = first_paced c (claims_on rs e) (paced s cycle quota law (p ∷ asked_on rs e) (c ∷ claims_on rs e) (states, stated_on rs e) fit)

@@ -1,6 +1,6 @@
 -- The steps of placing a job.
 use Rattle.std.proofs.Common.{◌≡◌, ℕ, ◌+◌, ◌<◌, ◌≤◌, Bool, true, cond, List, [], ◌∷◌, ◌++◌, map, filter, length, take, get_or, Some, None, Result, Ok, Err, refl, sym, ap, subst, ◌∙◌, arith, inl, inr}
-use Rattle.std.specs.Prelude.{slice_get, IfErr}
+use Rattle.std.specs.Prelude.{slice_get, IfErr, IfOk}
 use Rattle.std.specs.Result.{IsErrAnd}
 use Rattle.board.specs.declared.refusal.Refusal.{Refusal}
 use Rattle.std.specs.List.{All}
@@ -9,10 +9,10 @@ use Rattle.std.proofs.lemmas.List.{append-nil, append_assoc, length-take, map-ap
 use Rattle.std.proofs.lemmas.List.Elements.{All-append, All-cons, All-nil, filter_more}
 use Rattle.std.proofs.lemmas.List.FromFn.{get_or-range_with_len}
 use Rattle.std.proofs.lemmas.Option.{none-some, same_Some, slice_get-get_or, slice_get_past}
-use Rattle.board.specs.Placing.{FitsOn, Rules}
+use Rattle.board.specs.Placing.{FirstOf, FitsOn, Rules}
 use Rattle.board.proofs.Asking.{kept_few}
-use Rattle.board.proofs.Listed.{stands}
-use Rattle.engine.specs.Roster.{tag_of}
+use Rattle.board.proofs.Listed.{few_listed, stands}
+use Rattle.engine.specs.Roster.{Rostered, tag_of}
 use Rattle.order.specs.Listing.{EachOnce}
 use Rattle.plan.specs.declared.plan.Plan.{Plan}
 use Rattle.plan.specs.declared.part.Task.{Task}
@@ -78,7 +78,7 @@ module _ (rules : Rules) (rs : List Resident) (p : Pattern) (es : List ℕ) (pla
         | inr high ↦ none-some e (sym (slice_get_past es k (omega arith)) ∙ at)
       ]
 
-pub ends_here : (es : List ℕ) (place : ℕ) → slice_get es place ≡ None → length es ≤ place
+ends_here : (es : List ℕ) (place : ℕ) → slice_get es place ≡ None → length es ≤ place
 ends_here es place none = elim (cases_lt place (length es)) [
   | inl low ↦ absurd (none-some (get_or es place 0) (sym none ∙ slice_get-get_or es place 0 low))
   | inr high ↦ high
@@ -96,3 +96,16 @@ told_more f xs i x ts low is =
 pub handed : {T : Type 0} (r : Result T Refusal) (f : Refusal) (Q : Refusal → Type 0) → IsErrAnd r (λ x. x ≡ f) → Q f → IfErr r Q
 handed (Ok t) f Q no' is = tt
 handed (Err x) f Q same is = subst Q (sym same) is
+
+-- what is said of an answer that is no error
+pub each_ok : {T E : Type 0} (P Q : T → Type 0) (r : Result T E) → ((x : T) → P x → Q x) → IfOk r P → IfOk r Q
+each_ok P Q (Ok x) each one = each x one
+each_ok P Q (Err e) each one = tt
+
+-- where the list ends at a place, or has no more than 16 places, all engines of the tag were tried
+module _ (rules : Rules) (rs : List Resident) (p : Pattern) (g : ℕ) (es : List ℕ) (each : EachOnce rules.tags g es) (place : ℕ) (before : NoneBefore rules rs p es place) where
+  pub ended_nowhere : slice_get es place ≡ None → FirstOf rules rs p g es None
+  ended_nowhere none = all_tried rules rs p es place before g each (ends_here es place none)
+
+  pub past_nowhere : Rostered rules.tags → 16 ≤ place → FirstOf rules rs p g es None
+  past_nowhere rostered past = all_tried rules rs p es place before g each (let few = few_listed rules.tags g es rostered each in omega arith)

@@ -5,18 +5,22 @@
 --   KnownStuck rules rs p known    some part of the plan p asks too much of each engine e of its tag, in known e ticks
 --   tried rules rs g               the engines of the tag g, in the order in which they are tried
 --   FirstFit rules rs p es e       e is the first of the engines es on which p fits
+--   FirstOf rules rs p g es o      o is the first of the engines es on which p fits, or nothing where it fits on no engine of the tag g
+--   RoomsOn supply rs rooms        each of the rooms is what the residents rs leave on the engine at its place, if it is there
 --   Sits rules rs p s              the seat s of the plan p is on the first engine on which its part fits
 --   IsPlaced rules rs j c r        r is the job j under the choice c, each part on the first engine on which it fits
 --   Stuck rules rs j c             under the choice c some part of the job j fits on no engine of its tag
 --   CannotBePlaced rules rs j c    the choice c is not possible, or some part is stuck
 --   Places rules rs j r            r is the job j under the first possible choice that can be placed
 --   tellings r                     the tag and the engine of each part of r, by rising tag
-use Rattle.std.specs.Prelude.{◌≡◌, ℕ, ◌<◌, true, List, [], ◌∷◌, map, Some, slice_get}
+use Rattle.std.specs.Prelude.{◌≡◌, ℕ, ◌<◌, true, List, [], ◌∷◌, map, Option, None, Some, slice_get}
 use Rattle.std.specs.List.{All}
-use Rattle.board.specs.Asked.{asked_on, loads}
+use Rattle.board.specs.Asked.{asked_on, claims_on, loads}
 use Rattle.engine.specs.Roster.{tag_of}
 use Rattle.few.specs.Few.{items}
+use Rattle.fit.specs.declared.room.Room.{Room}
 use Rattle.fit.specs.Fits.{Fits}
+use Rattle.fit.specs.Room.{Leaves}
 use Rattle.plan.specs.declared.plan.Plan.{Plan}
 use Rattle.plan.specs.Pattern.{part_pattern}
 use Rattle.plan.specs.Plan.{IsPlan}
@@ -58,6 +62,13 @@ pub record FirstFit (rules : Rules) (rs : List Resident) (p : Pattern) (es : Lis
   pub there : slice_get es place ≡ Some e
   pub fits : FitsOn rules.supply rs e p
   pub none_before : (k d : ℕ) → k < place → slice_get es k ≡ Some d → FitsOn rules.supply rs d p → ⊥
+
+abbrev pub FirstOf : Rules → List Resident → Pattern → ℕ → List ℕ → Option ℕ → Type 0
+FirstOf rules rs p g es None = (e : ℕ) → tag_of rules.tags e ≡ Some g → FitsOn rules.supply rs e p → ⊥
+FirstOf rules rs p g es (Some e) = FirstFit rules rs p es e
+
+abbrev pub RoomsOn : (ℕ → ℕ → ℕ) → List Resident → List (Option Room) → Type 0
+RoomsOn supply rs rooms = (e : ℕ) (room : Room) → slice_get rooms e ≡ Some (Some room) → Leaves (supply e) (claims_on rs e) room
 
 abbrev pub Sits : Rules → List Resident → Plan → Seat → Type 0
 Sits rules rs p s = FirstFit rules rs (part_pattern p s.tag) (tried rules rs s.tag) s.engine

@@ -1,10 +1,10 @@
 //! Placing a job on the engines of a board.
-ghost use Rattle.std.specs.Prelude.{◌≡◌, ℕ, ◌<◌, ◌≤◌, ◌↔◌, ◌∷◌, IfSome, IsNone, IsTrue, MatchOption, Some, min, slice_index};
+ghost use Rattle.std.specs.Prelude.{◌≡◌, ℕ, ◌<◌, ◌≤◌, ◌↔◌, [], ◌∷◌, IfOk, IfSome, IsNone, IsOk, IsTrue, MatchOption, Some, length, min, slice_index};
 ghost use Rattle.board.specs.Asked.{claims_on};
-ghost use Rattle.board.specs.Placing.{CannotBePlaced, FitsOn, KnownStuck, Places, ShortOn};
+ghost use Rattle.board.specs.Placing.{CannotBePlaced, FirstOf, FitsOn, KnownStuck, Places, RoomsOn, ShortOn};
 ghost use Rattle.board.specs.Residents.{jobs};
 ghost use Rattle.engine.specs.Roster.{tag_of};
-ghost use Rattle.fit.specs.Fits.{Short, in_cycle};
+ghost use Rattle.fit.specs.Room.{Leaves};
 ghost use Rattle.fit.specs.Stated.{States};
 ghost use Rattle.task.specs.declared.node.Numbering.TheVariants.{Choice};
 ghost use Rattle.task.specs.Flaws.{graph};
@@ -17,7 +17,9 @@ use claim::claim::{Claim, Cut};
 use engine::roster::ENGINES;
 use engine::supply::Supply;
 use few::few::Few;
-use fit::fits::{is_short, shortage};
+use fit::demands::Demands;
+use fit::fits::{Unsettled, is_short, shortage};
+use fit::room::Room;
 use order::order::EngineOrder;
 use order::rota::TAGS;
 use plan::plan::Plan;
@@ -49,13 +51,36 @@ fn no_seat() -> Seat {
 
 impl<P: Supply, R: SlackRule, O: EngineOrder> Board<P, R, O> {
     /// A number of ticks in which the engine serves too little for what the claim states beside the residents; nothing where it fits. `near` is tried first.
-    fn shortage(&self, engine: usize, claim: &Claim, near: u32) -> Option<u32>
-        ensures fits { (p : Pattern) → States p claim.now → IsNone result ↔ FitsOn (P.Supply.supply self.now.platform) (jobs self.now.residents) engine p }
-        ensures paced { (p : Pattern) → States p claim.now → IsNone result → in_cycle claim.now ≤ 14400 }
-        ensures short { IfSome result (λ n. (n ≤ 28800) × Short (P.Supply.supply self.now.platform engine) (claim.now ∷ claims_on (jobs self.now.residents) engine) n) }
+    fn shortage(&self, engine: usize, claim: &Claim, near: u32) -> Result<Option<u32>, Unsettled>
+        ensures { IfOk result (λ known. (p : Pattern) → States p claim.now → IsNone known ↔ FitsOn (P.Supply.supply self.now.platform) (jobs self.now.residents) engine p) }
     {
         let claims = claims_on(claim, self.residents.as_slice(), engine);
         shortage(&self.platform, engine, claims.as_slice(), near)
+    }
+
+    /// What the residents leave on the engine; the claim is another.
+    fn room(&self, engine: usize, claim: &Claim) -> Room
+        ensures { Leaves (P.Supply.supply self.now.platform engine) (claims_on (jobs self.now.residents) engine) result }
+    {
+        let claims = claims_on(claim, self.residents.as_slice(), engine);
+        Room::beside(&self.platform, engine, &claims.as_slice()[1..])
+    }
+
+    /// The same by what the residents leave on the engine, which is found out where it is not known.
+    fn shortage_by_room(
+        &self,
+        engine: usize,
+        claim: &Claim,
+        demands: &Demands,
+        known: &mut Option<Room>,
+    ) -> Option<u32>
+        requires same { demands.now.claim ≡ claim.now }
+        requires known { IfSome known.old (Leaves (P.Supply.supply self.now.platform engine) (claims_on (jobs self.now.residents) engine)) }
+        ensures fits { (p : Pattern) → States p claim.now → IsNone result ↔ FitsOn (P.Supply.supply self.now.platform) (jobs self.now.residents) engine p }
+        ensures known { IfSome known.new (Leaves (P.Supply.supply self.now.platform engine) (claims_on (jobs self.now.residents) engine)) }
+    {
+        let room = known.get_or_insert_with(|| self.room(engine, claim));
+        room.shortage(demands)
     }
 
     /// Whether in so many ticks, or in twice a belt cycle if that is less, the engine serves too little for what the claim states beside the residents.
@@ -96,9 +121,92 @@ impl<P: Supply, R: SlackRule, O: EngineOrder> Board<P, R, O> {
         false
     }
 
-    /// The job under its first possible choice that can be placed.
-    pub(crate) fn place(&self, job: &Job) -> Option<Resident>
-        ensures { MatchOption result ((c : ℕ) → c < numbers Choice (graph job.now) → CannotBePlaced (record { tags = P.Roster.tags self.now.platform; supply = P.Supply.supply self.now.platform; local = R.SlackRule.local self.now.rule; listing = O.EngineOrder.listing self.now.order }) (jobs self.now.residents) job.now c) (Places (record { tags = P.Roster.tags self.now.platform; supply = P.Supply.supply self.now.platform; local = R.SlackRule.local self.now.rule; listing = O.EngineOrder.listing self.now.order }) (jobs self.now.residents) job.now) }
+    /// The first engine of the tag, in the order's list, on which the claim fits; nothing where it fits on none. Where an engine is short is kept.
+    fn first_by_walks(
+        &self,
+        tag: u32,
+        claim: &Claim,
+        loads: &[u32; ENGINES],
+        short: &mut [u32; ENGINES],
+    ) -> Result<Option<usize>, Unsettled>
+        ensures { IfOk result (λ found. (p : Pattern) → States p claim.now → FirstOf (record { tags = P.Roster.tags self.now.platform; supply = P.Supply.supply self.now.platform; local = R.SlackRule.local self.now.rule; listing = O.EngineOrder.listing self.now.order }) (jobs self.now.residents) p tag (O.EngineOrder.listing self.now.order [] (P.Roster.tags self.now.platform) tag loads.now) found) }
+    {
+        for place in 0..ENGINES {
+            let Some(engine) = self.order.place(&self.platform, tag, loads, place) else {
+                return Ok(None);
+            };
+            let Some(ticks) = self.shortage(engine, claim, short[engine])? else {
+                return Ok(Some(engine));
+            };
+            short[engine] = ticks;
+        }
+        Ok(None)
+    }
+
+    /// The same by what the residents leave on engines, where there are places for that.
+    // Not inlined, since its table would lie in the frame of every load.
+    #[inline(never)]
+    fn first_by_rooms(
+        &self,
+        tag: u32,
+        claim: &Claim,
+        loads: &[u32; ENGINES],
+        short: &mut [u32; ENGINES],
+        rooms: &mut [Option<Room>],
+    ) -> Result<Option<usize>, Unsettled>
+        requires { RoomsOn (P.Supply.supply self.now.platform) (jobs self.now.residents) rooms.old }
+        ensures first { IfOk result (λ found. (p : Pattern) → States p claim.now → FirstOf (record { tags = P.Roster.tags self.now.platform; supply = P.Supply.supply self.now.platform; local = R.SlackRule.local self.now.rule; listing = O.EngineOrder.listing self.now.order }) (jobs self.now.residents) p tag (O.EngineOrder.listing self.now.order [] (P.Roster.tags self.now.platform) tag loads.now) found) }
+        ensures rooms { RoomsOn (P.Supply.supply self.now.platform) (jobs self.now.residents) rooms.new }
+        ensures settled { 16 ≤ length rooms.old → IsOk result }
+        ensures long { length rooms.new ≡ length rooms.old }
+    {
+        if rooms.len() < ENGINES {
+            return Err(Unsettled);
+        }
+        let demands = Demands::of(claim);
+        for place in 0..ENGINES {
+            let Some(engine) = self.order.place(&self.platform, tag, loads, place) else {
+                return Ok(None);
+            };
+            let Some(ticks) = self.shortage_by_room(engine, claim, &demands, &mut rooms[engine])
+            else {
+                return Ok(Some(engine));
+            };
+            short[engine] = ticks;
+        }
+        Ok(None)
+    }
+
+    /// The same by walks, and by what the residents leave where a walk is too long.
+    fn first_fit(
+        &self,
+        tag: u32,
+        claim: &Claim,
+        loads: &[u32; ENGINES],
+        short: &mut [u32; ENGINES],
+        rooms: &mut [Option<Room>],
+    ) -> Result<Option<usize>, Unsettled>
+        requires { RoomsOn (P.Supply.supply self.now.platform) (jobs self.now.residents) rooms.old }
+        ensures first { IfOk result (λ found. (p : Pattern) → States p claim.now → FirstOf (record { tags = P.Roster.tags self.now.platform; supply = P.Supply.supply self.now.platform; local = R.SlackRule.local self.now.rule; listing = O.EngineOrder.listing self.now.order }) (jobs self.now.residents) p tag (O.EngineOrder.listing self.now.order [] (P.Roster.tags self.now.platform) tag loads.now) found) }
+        ensures rooms { RoomsOn (P.Supply.supply self.now.platform) (jobs self.now.residents) rooms.new }
+        ensures settled { 16 ≤ length rooms.old → IsOk result }
+        ensures long { length rooms.new ≡ length rooms.old }
+    {
+        match self.first_by_walks(tag, claim, loads, short) {
+            Ok(found) => Ok(found),
+            Err(Unsettled) => self.first_by_rooms(tag, claim, loads, short, rooms),
+        }
+    }
+
+    /// The job under its first possible choice that can be placed, where no walk is too long or there are places for what the residents leave.
+    fn place_beside(
+        &self,
+        job: &Job,
+        rooms: &mut [Option<Room>],
+    ) -> Result<Option<Resident>, Unsettled>
+        requires { RoomsOn (P.Supply.supply self.now.platform) (jobs self.now.residents) rooms.old }
+        ensures placed { IfOk result (λ placed. MatchOption placed ((c : ℕ) → c < numbers Choice (graph job.now) → CannotBePlaced (record { tags = P.Roster.tags self.now.platform; supply = P.Supply.supply self.now.platform; local = R.SlackRule.local self.now.rule; listing = O.EngineOrder.listing self.now.order }) (jobs self.now.residents) job.now c) (Places (record { tags = P.Roster.tags self.now.platform; supply = P.Supply.supply self.now.platform; local = R.SlackRule.local self.now.rule; listing = O.EngineOrder.listing self.now.order }) (jobs self.now.residents) job.now)) }
+        ensures settled { 16 ≤ length rooms.old → IsOk result }
     {
         let loads = loads(&self.residents);
         // The parts of a job's choices are much alike, so the ticks in which an engine was short for one are tried first with the next.
@@ -111,24 +219,38 @@ impl<P: Supply, R: SlackRule, O: EngineOrder> Board<P, R, O> {
                 continue;
             }
             let mut seats = Few::new(no_seat());
-            'tags: for tag in 0..PARTS as u32 {
+            for tag in 0..PARTS as u32 {
                 let Some(claim) = Claim::of(&plan, tag) else {
                     continue;
                 };
-                for place in 0..ENGINES {
-                    let Some(engine) = self.order.place(&self.platform, tag, &loads, place) else {
-                        continue 'choices;
-                    };
-                    let Some(ticks) = self.shortage(engine, &claim, short[engine]) else {
-                        seats.push(Seat { tag, engine, claim }).unwrap();
-                        continue 'tags;
-                    };
-                    short[engine] = ticks;
-                }
-                continue 'choices;
+                let Some(engine) = self.first_fit(tag, &claim, &loads, &mut short, rooms)? else {
+                    continue 'choices;
+                };
+                seats.push(Seat { tag, engine, claim }).unwrap();
             }
-            return Some(Resident { plan, seats });
+            return Ok(Some(Resident { plan, seats }));
         }
-        None
+        Ok(None)
+    }
+
+    /// The same, with places for what the residents leave.
+    // Not inlined, since its tables would lie in the frame of every load.
+    #[inline(never)]
+    fn place_by_rooms(&self, job: &Job) -> Option<Resident>
+        ensures { MatchOption result ((c : ℕ) → c < numbers Choice (graph job.now) → CannotBePlaced (record { tags = P.Roster.tags self.now.platform; supply = P.Supply.supply self.now.platform; local = R.SlackRule.local self.now.rule; listing = O.EngineOrder.listing self.now.order }) (jobs self.now.residents) job.now c) (Places (record { tags = P.Roster.tags self.now.platform; supply = P.Supply.supply self.now.platform; local = R.SlackRule.local self.now.rule; listing = O.EngineOrder.listing self.now.order }) (jobs self.now.residents) job.now) }
+    {
+        let mut rooms = [None; ENGINES];
+        self.place_beside(job, &mut rooms).unwrap_or(None)
+    }
+
+    /// The job under its first possible choice that can be placed.
+    pub(crate) fn place(&self, job: &Job) -> Option<Resident>
+        ensures { MatchOption result ((c : ℕ) → c < numbers Choice (graph job.now) → CannotBePlaced (record { tags = P.Roster.tags self.now.platform; supply = P.Supply.supply self.now.platform; local = R.SlackRule.local self.now.rule; listing = O.EngineOrder.listing self.now.order }) (jobs self.now.residents) job.now c) (Places (record { tags = P.Roster.tags self.now.platform; supply = P.Supply.supply self.now.platform; local = R.SlackRule.local self.now.rule; listing = O.EngineOrder.listing self.now.order }) (jobs self.now.residents) job.now) }
+    {
+        // What the residents leave takes much memory, which is not touched where no walk is too long.
+        match self.place_beside(job, &mut []) {
+            Ok(placed) => placed,
+            Err(Unsettled) => self.place_by_rooms(job),
+        }
     }
 }

@@ -7,3 +7,4 @@ pub mod Reaching
 pub mod Passing
 pub mod Growing
 pub mod Climbing
+pub mod Steadying

@@ -7,6 +7,8 @@
 --   step values n       the n-th of the values, and 0 before the first
 --   reach_of c y        the ends that an arrival has passed up to y after it, the whole ones after it, and the ends that the last one has passed
 --   Begins c y b        from b after an arrival up to y after it, it is the same
+--   all_due c           when all that an arrival asks has fallen due
+--   Steady c b          in b ticks or more, a period more asks for one whole arrival more
 use Rattle.std.specs.Prelude.{◌≡◌, ◌≤◌, ℕ, ◌+◌, ◌-◌, ◌*◌, ◌/◌, max, List, ◌∷◌, count_by, nat_le, slice_index_or}
 use Rattle.few.specs.Few.{items}
 use Rattle.claim.specs.declared.asking.Reach.{Reach}
@@ -43,3 +45,9 @@ reach_of c y = record {
 pub record Begins (c : Claim) (y b : ℕ) : Type 0 where
   pub within : b ≤ y
   pub same : (z : ℕ) → b ≤ z → z ≤ y → reach_of c z ≡ reach_of c y
+
+abbrev pub all_due : Claim → ℕ
+all_due c = max c.deadline (greatest (λ e. e) (items c.ends))
+
+abbrev pub Steady : Claim → ℕ → Type 0
+Steady c b = (n : ℕ) → b ≤ n → given c (n + c.period) ≡ given c n + c.whole

@@ -1,6 +1,6 @@
 //! The demand that a claim states.
 ghost use Rattle.std.specs.Prelude.{◌≡◌, ℕ, ◌+◌, ◌-◌, ◌*◌, ◌/◌, ◌<◌, ◌≤◌, ◌^◌, length, slice_index};
-ghost use Rattle.claim.specs.Asking.{Begins, ended, given, given_at, reach_of, step};
+ghost use Rattle.claim.specs.Asking.{Begins, Steady, all_due, ended, given, given_at, reach_of, step};
 ghost use Rattle.claim.specs.Claim.{Claims};
 ghost use Rattle.claim.specs.Plateau.{Level};
 ghost use Rattle.few.specs.Few.{items};
@@ -161,5 +161,15 @@ impl Claim {
         ensures demand { (p : Pattern) → WellFormed p → Claims p self.now → result ≡ demand p ticks }
     {
         self.plateau(ticks).most
+    }
+
+    /// When all that an arrival asks has fallen due. In so many ticks or more, a period more asks for one whole arrival more.
+    pub fn all_due(&self) -> u32
+        ensures due { result ≡ all_due self.now }
+        ensures steady { Steady self.now result }
+    {
+        self.ends
+            .iter()
+            .fold(self.deadline, |latest, end| (*end).max(latest))
     }
 }

@@ -12,12 +12,12 @@ use Rattle.claim.specs.Plateau.{Level}
 use Rattle.fit.specs.Fits.{Kept}
 use Rattle.fit.proofs.Spending.{at_place, shown, there}
 
-set_same : {X : Type 0} (xs : List X) (i : ℕ) (x y : X) → slice_get (set xs i x) i ≡ Some y → x ≡ y
+pub set_same : {X : Type 0} (xs : List X) (i : ℕ) (x y : X) → slice_get (set xs i x) i ≡ Some y → x ≡ y
 set_same [] i x y is = cc
 set_same (z ∷ xs) zero x y is = cc
 set_same (z ∷ xs) (suc i) x y is = set_same xs i x y is
 
-set_other : {X : Type 0} (xs : List X) (i j : ℕ) (x : X) → j ≢ i → slice_get (set xs i x) j ≡ slice_get xs j
+pub set_other : {X : Type 0} (xs : List X) (i j : ℕ) (x : X) → j ≢ i → slice_get (set xs i x) j ≡ slice_get xs j
 set_other [] i j x ne = refl
 set_other (z ∷ xs) zero zero x ne = absurd (ne refl)
 set_other (z ∷ xs) zero (suc j) x ne = refl

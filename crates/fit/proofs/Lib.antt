@@ -5,3 +5,4 @@ pub mod Spending
 pub mod Stating
 pub mod Walking
 pub mod Keeping
+pub mod Rooms

@@ -1,3 +1,4 @@
 pub mod Fits
 pub mod Multiple
 pub mod Stated
+pub mod Room

@@ -1,6 +1,6 @@
 //! The fit test of an engine.
 ghost use Rattle.std.specs.Int.{IsGcd};
-ghost use Rattle.std.specs.Prelude.{◌≡◌, ◌-◌, ◌≤◌, ◌↔◌, IsNone, IsTrue, IfSome, List, map, min, SomeIff};
+ghost use Rattle.std.specs.Prelude.{◌≡◌, ◌-◌, ◌≤◌, ◌↔◌, IsNone, IsTrue, IfOk, IfSome, List, map, min, SomeIff};
 ghost use Rattle.claim.specs.Asking.{given};
 ghost use Rattle.claim.specs.Plateau.{Level};
 ghost use Rattle.fit.specs.Fits.{Fits, Kept, LeastFor, Paced, Short, given_of_all};
@@ -15,8 +15,15 @@ use engine::supply::{FARTHEST, Supply};
 /// A belt cycle, in ticks.
 const CYCLE: u32 = 14_400;
 
+/// How many numbers of ticks a walk looks at.
+const STEPS: usize = 128;
+
 /// Of how many claims a walk keeps the plateaus; the claims after these are asked anew each time. A board passes no more.
 const KEPT: usize = 129;
+
+/// A walk has looked at as many numbers of ticks as it may, and cannot say yet.
+#[derive(Debug, Clone, Copy, PartialEq, Eq)]
+pub struct Unsettled;
 
 /// The greatest number that divides both.
 fn greatest_divisor(one: u32, other: u32) -> u32
@@ -47,7 +54,7 @@ fn common_multiple(claims: &[&Claim]) -> u32
 }
 
 /// What a claim asks in so many ticks. It is asked only where the plateau that is kept of it does not say.
-fn asked(claim: &Claim, kept: &mut Plateau, ticks: u32) -> u64
+pub(crate) fn asked(claim: &Claim, kept: &mut Plateau, ticks: u32) -> u64
     requires { Level (given claim.now) kept.old }
     ensures asked { result ≡ given claim.now ticks }
     ensures kept { Level (given claim.now) kept.new }
@@ -106,25 +113,33 @@ pub fn is_short<P: Supply>(platform: &P, engine: usize, claims: &[&Claim], ticks
 }
 
 /// A number of ticks in which the claims ask for more than the engine serves; nothing where there is no such number. `near` is tried first.
-pub fn shortage<P: Supply>(platform: &P, engine: usize, claims: &[&Claim], near: u32) -> Option<u32>
-    ensures fits { (ps : List Pattern) → Stated ps (map (λ c. c.now) claims.now) → IsNone result ↔ Fits (P.Supply.supply platform.now engine) ps }
-    ensures paced { (ps : List Pattern) → Stated ps (map (λ c. c.now) claims.now) → IsNone result → Paced (map (λ c. c.now) claims.now) }
-    ensures short { IfSome result (λ n. (n ≤ 28800) × Short (P.Supply.supply platform.now engine) (map (λ c. c.now) claims.now) n) }
+pub fn shortage<P: Supply>(
+    platform: &P,
+    engine: usize,
+    claims: &[&Claim],
+    near: u32,
+) -> Result<Option<u32>, Unsettled>
+    ensures fits { IfOk result (λ known. (ps : List Pattern) → Stated ps (map (λ c. c.now) claims.now) → IsNone known ↔ Fits (P.Supply.supply platform.now engine) ps) }
+    ensures paced { IfOk result (λ known. (ps : List Pattern) → Stated ps (map (λ c. c.now) claims.now) → IsNone known → Paced (map (λ c. c.now) claims.now)) }
+    ensures short { IfOk result (λ known. IfSome known (λ n. (n ≤ 28800) × Short (P.Supply.supply platform.now engine) (map (λ c. c.now) claims.now) n)) }
 {
     if is_short(platform, engine, claims, near) {
-        return Some(near.min(FARTHEST));
+        return Ok(Some(near.min(FARTHEST)));
     }
     // Twice a common multiple of the periods settles every number of ticks, so the walk begins there.
     let farthest = 2 * common_multiple(claims);
     let mut ticks = farthest;
     let mut kept = [Plateau::NOWHERE; KEPT];
-    while ticks > 0 {
+    for _ in 0..STEPS {
+        if ticks == 0 {
+            return Ok(None);
+        }
         let served = u64::from(platform.supply(engine, ticks));
         let Some(spare) = spare(claims, &mut kept, ticks, served) else {
-            return Some(ticks);
+            return Ok(Some(ticks));
         };
         // In fewer ticks no more is asked, so those in which as much is served need no look.
         ticks = least_for(platform, engine, ticks, served - spare).saturating_sub(1);
     }
-    None
+    Err(Unsettled)
 }

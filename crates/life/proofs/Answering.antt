@@ -19,10 +19,10 @@ use Rattle.life.specs.declared.any_board.AnyBoard.{AnyBoard as Code}
 use Rattle.life.specs.declared.any_board.AnyBoard.TheVariants.{Running, Stopped}
 use Rattle.life.specs.InStep.{InStep, stands, turns}
 use Rattle.life.specs.Standing.{at, Listing, running, Standing, state_of, stopped}
-use Rattle.life.proofs.Keeping.{arrival_refused, keeps_arrival, keeps_tick, ran_kept, state_more, tick_granted, tick_refused}
+use Rattle.life.proofs.Keeping.{arrival_refused, keeps_arrival, keeps_tick, ran_kept, tick_refused}
 use Rattle.resident.specs.declared.resident.Resident.{Resident}
 use Rattle.running.specs.Arriving.{ArriveRefused}
-use Rattle.running.specs.Ticking.{NoOther, Ran, TickRefused}
+use Rattle.running.specs.Ticking.{Ran, TickRefused}
 use Rattle.running.specs.declared.running.Running.{Running as RunningBoard}
 use Rattle.running.specs.View.{view}
 use Rattle.runs.specs.Events.{arrive, Event, granted, start, step}
@@ -90,14 +90,14 @@ module _ (rules : Rules) (rs : List Resident) (l : Listing) (es : List Event) (w
   pub arrival_not : (n b : ℕ) (f : Refusal) → ArriveRefused was n b f → now ≡ was → Goes (Arrive n b) (Refused f)
   arrival_not n b f refused same = (es, refuses_arrival (arrival_refused (state_of rs es) n b f (subst (λ (st : State). ArriveRefused st n b f) keeps refused)), same ∙ keeps)
 
-  pub tick_done : (served done late : ℕ) (ran : List (Option Next)) → was.clock ≡ (state_of rs es).clock → Granted (length rules.tags) (state_of rs es) (ticked served done) → Ran was served ran
+  pub tick_done : (served done late : ℕ) (ran : List (Option Next)) → Granted (length rules.tags) (state_of rs es) (ticked served done) → length ran ≡ 16 → Ran was served ran
       → now ≡ step was (ticked served done) → now.lates ≡ was.lates + late → Goes (Tick served done) (Ticked ran late)
-  tick_done served done late ran clock grants is steps late_is =
+  tick_done served done late ran grants long is steps late_is =
       let after = keeps_tick rs es was now keeps served done steps in
       let now_lates : now.lates ≡ (state_of rs (es ++ ticked served done ∷ [])).lates = ap (λ (st : State). st.lates) after in
       let was_lates : was.lates ≡ (state_of rs es).lates = ap (λ (st : State). st.lates) keeps in
       (es ++ ticked served done ∷ [],
-       ticks grants (ran_kept (state_of rs es) served ran (subst (λ (st : State). Ran st served ran) keeps is)) (sym now_lates ∙ late_is ∙ ap (λ n. n + late) was_lates),
+       ticks grants long (ran_kept (state_of rs es) served ran (subst (λ (st : State). Ran st served ran) keeps is)) (sym now_lates ∙ late_is ∙ ap (λ n. n + late) was_lates),
        after)
 
   pub tick_not : (served done : ℕ) (f : Refusal) → TickRefused (length rules.tags) was served done f → now ≡ was → Goes (Tick served done) (Refused f)

@@ -1,5 +1,5 @@
 -- A board that keeps what it has to keep of the state of its run does so after each event, and what it answers is right for that state.
-use Rattle.std.proofs.Common.{◌≡◌, ℕ, ◌<◌, ◌≤◌, Bool, true, false, cond, eqb, List, [], ◌∷◌, ◌++◌, length, map, Option, Some, None, refl, sym, ap, ◌∙◌, subst, inl, inr, ◌||◌, arith}
+use Rattle.std.proofs.Common.{◌≡◌, ℕ, ◌<◌, ◌≤◌, cond, eqb, List, [], ◌∷◌, ◌++◌, length, map, Option, Some, None, refl, sym, ap, ◌∙◌, subst, inl, inr, arith}
 use Rattle.std.specs.Option.{option_map}
 use Rattle.std.proofs.lemmas.Bool.{cases_Bool, or_parts}
 use Rattle.board.specs.declared.refusal.Refusal.{Refusal}
@@ -14,7 +14,7 @@ use Rattle.life.specs.Standing.{state_of}
 use Rattle.resident.specs.declared.resident.Resident.{Resident}
 use Rattle.running.specs.Arriving.{ArriveRefused, slot_of}
 use Rattle.running.specs.Ticking.{NoOther, Ran, TickRefused}
-use Rattle.runs.specs.Events.{arrive, Event, free_at, play, step, tick}
+use Rattle.runs.specs.Events.{arrive, Event, free_at, play, step}
 use Rattle.runs.specs.Job.{Job}
 use Rattle.runs.specs.Next.{Key}
 use Rattle.runs.specs.Runs.{Granted}

@@ -1,10 +1,12 @@
 pub mod Questions
 pub mod Promises
+pub mod Keeping
+pub mod Answering
+pub mod SoFar
 pub mod Same
 pub mod Moving
 pub mod Outcomes
 pub mod Alike
+pub mod Arrivals
 pub mod OneAnswer
-pub mod Keeping
-pub mod Answering
-pub mod SoFar
+pub mod Determining

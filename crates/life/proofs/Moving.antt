@@ -1,5 +1,5 @@
 -- What loading says of the residents of a board, it says of others that ask the same and have the same numbers.
-use Rattle.std.proofs.Common.{◌≡◌, ℕ, ◌+◌, ◌<◌, ◌≤◌, Bool, true, List, [], ◌∷◌, ◌++◌, map, length, Some, refl, sym, ap, ◌∙◌, subst, arith}
+use Rattle.std.proofs.Common.{◌≡◌, ℕ, List, [], ◌∷◌, map, length, sym, ap, ◌∙◌, subst, arith}
 use Rattle.std.specs.Prelude.{sum_by}
 use Rattle.std.specs.List.{All, range_with_len}
 use Rattle.std.proofs.Math.Path.{fun_ext}
@@ -10,7 +10,6 @@ use Rattle.board.specs.declared.refusal.Refusal.TheVariants.{Fault, NumberTaken,
 use Rattle.board.specs.Asked.{asked_on, load_of, loads}
 use Rattle.board.specs.Loading.{Comes, Free, IsLoaded, LoadRefused}
 use Rattle.board.specs.Placing.{CannotBePlaced, FirstFit, FitsOn, IsPlaced, Places, Rules, Sits, Stuck, tried}
-use Rattle.engine.specs.Roster.{tag_of}
 use Rattle.few.specs.Few.{items}
 use Rattle.fit.specs.Fits.{Fits}
 use Rattle.plan.specs.declared.plan.Plan.{Plan}

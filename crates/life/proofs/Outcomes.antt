@@ -35,6 +35,7 @@ pub record TickedTo (rules : Rules) (rs : List Resident) (l : Listing) (es : Lis
   pub late : ℕ
   pub ran : List (Option Next)
   pub granted : Granted (length rules.tags) (state_of rs es) (ticked served done)
+  pub ran_long : length ran ≡ 16
   pub ran_is : Ran (state_of rs es) served ran
   pub late_is : (state_of rs (es ++ ticked served done ∷ [])).lates ≡ (state_of rs es).lates + late
   pub kept : Kept (Ticked ran late) (running rs l (es ++ ticked served done ∷ [])) a t
@@ -77,7 +78,7 @@ module _ (rules : Rules) where
   outcome s t call a starts = (refl, refl)
   outcome s t call a (arrives granted) = inl (granted, (refl, refl))
   outcome s t call a (refuses_arrival {rs} {l} {es} {n} {b} {f} refused) = inr (f, refused, (refl, refl))
-  outcome s t call a (ticks {rs} {l} {es} {served} {done} {late} {ran} granted is many) = inl (record { late = late; ran = ran; granted = granted; ran_is = is; late_is = many; kept = (refl, refl) })
+  outcome s t call a (ticks {rs} {l} {es} {served} {done} {late} {ran} granted long is many) = inl (record { late = late; ran = ran; granted = granted; ran_long = long; ran_is = is; late_is = many; kept = (refl, refl) })
   outcome s t call a (refuses_tick {rs} {l} {es} {served} {done} {f} refused) = inr (f, refused, (refl, refl))
   outcome s t call a stops = (refl, refl)
   outcome s t call a (not_taken refused) = untaken s call refused

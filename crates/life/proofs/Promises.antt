@@ -1,14 +1,12 @@
 -- Each call that the rules answer keeps both promises, and leaves a board of which the same can be said again.
-use Rattle.std.proofs.Common.{◌≡◌, ℕ, ◌+◌, ◌<◌, ◌≤◌, ◌↔◌, Bool, true, false, List, [], ◌∷◌, ◌++◌, length, take, Some, None, refl, sym, ap, ◌∙◌, subst, arith}
-use Rattle.std.proofs.lemmas.List.{append_assoc, take_all}
-use Rattle.board.specs.declared.refusal.Refusal.{Refusal}
-use Rattle.board.specs.declared.refusal.Refusal.TheVariants.{Fault, NumberTaken, BoardFull, NoChoice, NoPlacement, NotResident, ShortBuffer}
+use Rattle.std.proofs.Common.{◌≡◌, ℕ, Bool, true, false, List, [], ◌∷◌, ◌++◌, length, sym, ap, subst, arith}
+use Rattle.std.proofs.lemmas.List.{take_all}
+use Rattle.board.specs.declared.refusal.Refusal.TheVariants.{NoPlacement}
 use Rattle.board.specs.Determined.{Complete}
-use Rattle.board.specs.Loading.{Comes, Free, LoadRefused, SomePossible, Takes}
+use Rattle.board.specs.Loading.{LoadRefused, Takes}
 use Rattle.board.specs.Placing.{Rules, tellings}
-use Rattle.board.specs.Residents.{others}
 use Rattle.life.specs.declared.call.Answer.{Answer}
-use Rattle.life.specs.declared.call.Answer.TheVariants.{Done, Loaded, NotTaken, Refused, Ticked}
+use Rattle.life.specs.declared.call.Answer.TheVariants.{Loaded, NotTaken, Refused}
 use Rattle.life.specs.declared.call.Call.{Call}
 use Rattle.life.specs.declared.call.Call.TheVariants.{Arrive, Load, Start, Stop, Tick, Unload}
 use Rattle.life.specs.Answered.{Answered, arrives, loads, not_taken, refuses_arrival, refuses_load, refuses_tick, refuses_unload, starts, stops, taken, ticks, unloads}
@@ -21,7 +19,7 @@ use Rattle.resident.specs.declared.resident.Resident.{Resident}
 use Rattle.runs.specs.Events.{Event}
 use Rattle.runs.specs.Runs.{masks, OnTime, Supplied}
 use Rattle.seated.specs.Lasting.{Placed}
-use Rattle.seated.specs.Placement.{LawfulRules, MustRefuse}
+use Rattle.seated.specs.Placement.{LawfulRules}
 use Rattle.seated.specs.Waits.{InOrder}
 use Rattle.seated.proofs.Theorems.{never_late_on_board, refused_exactly, stays_placed}
 
@@ -66,7 +64,7 @@ module _ (rules : Rules) (lawful : LawfulRules rules) where
   stays s t call answer sound starts = sound
   stays s t call answer sound (arrives g) = sound
   stays s t call answer sound (refuses_arrival f) = sound
-  stays s t call answer sound (ticks g r n) = sound
+  stays s t call answer sound (ticks g long r n) = sound
   stays s t call answer sound (refuses_tick f) = sound
   stays s t call answer sound stops = sound
   stays s t call answer sound (not_taken refused) = sound
@@ -91,7 +89,7 @@ module _ (rules : Rules) (lawful : LawfulRules rules) where
   exactly s t call answer sound starts = tt
   exactly s t call answer sound (arrives g) = tt
   exactly s t call answer sound (refuses_arrival f) = tt
-  exactly s t call answer sound (ticks g r n) = tt
+  exactly s t call answer sound (ticks g long r n) = tt
   exactly s t call answer sound (refuses_tick f) = tt
   exactly s t call answer sound stops = tt
   exactly s t call answer sound (not_taken refused) = untaken s call refused

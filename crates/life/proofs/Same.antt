@@ -1,9 +1,7 @@
 -- Jobs that are placed alike are one job of a run.
-use Rattle.std.proofs.Common.{◌≡◌, ℕ, ◌<◌, Bool, false, true, cond, List, [], ◌∷◌, map, filter, length, get_or, Option, Some, None, refl, sym, ap, ◌∙◌, subst, inl, inr, arith}
-use Rattle.std.specs.Prelude.{unwrap_or}
+use Rattle.std.proofs.Common.{◌≡◌, ℕ, Bool, false, List, [], map, filter, length, get_or, refl, sym, ap, ◌∙◌}
 use Rattle.std.proofs.Math.Path.{fun_ext}
 use Rattle.board.specs.Determined.{SameJob}
-use Rattle.board.specs.Placing.{tellings}
 use Rattle.computed.proofs.Asked.{known_tasks, map_one, many_are, reached_are}
 use Rattle.computed.specs.Graph.{reached}
 use Rattle.plan.specs.declared.part.Task.{Task}
@@ -11,7 +9,7 @@ use Rattle.plan.specs.declared.plan.Plan.{Plan}
 use Rattle.plan.specs.Part.{tasks_where}
 use Rattle.plan.specs.Plan.{IsPlan, nodes_of, reached_rows}
 use Rattle.runs.specs.Job.{Job as Run, SubTask}
-use Rattle.seated.specs.Jobs.{job_at, reached_by, sub_task}
+use Rattle.seated.specs.Jobs.{job_at}
 use Rattle.sheet.specs.Sheet.{tag_of}
 use Rattle.slack.specs.declared.rule.Position.{Position}
 use Rattle.task.specs.declared.job.Job.{Job}

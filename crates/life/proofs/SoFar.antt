@@ -1,5 +1,5 @@
 -- A history of which the first calls are made.
-use Rattle.std.proofs.Common.{◌≡◌, ℕ, ◌+◌, ◌<◌, ◌≤◌, List, [], ◌∷◌, ◌++◌, map, length, take, get_or, Some, None, Option, refl, sym, ap, ◌∙◌, subst, arith}
+use Rattle.std.proofs.Common.{◌≡◌, ℕ, ◌+◌, ◌<◌, ◌≤◌, List, [], map, length, take, get_or, Some, Option, refl, sym, ap, ◌∙◌, subst}
 use Rattle.std.specs.Prelude.{slice_set}
 use Rattle.std.proofs.Math.Seq.{map-set_same}
 use Rattle.std.proofs.lemmas.List.{length-set, take_all, take_more_set}
@@ -13,8 +13,8 @@ use Rattle.life.specs.declared.call.Call.{Call}
 use Rattle.life.specs.declared.call.Entry.{Entry}
 use Rattle.life.specs.Answered.{Answered}
 use Rattle.life.specs.InStep.{board_of, InStep, late_of, stands}
-use Rattle.life.specs.Lives.{ends, goes_on, Lives}
-use Rattle.life.specs.Standing.{Listing, running, Standing, stopped, total_of}
+use Rattle.life.specs.Lives.{ends, Lives}
+use Rattle.life.specs.Standing.{Listing, Standing, stopped, total_of}
 use Rattle.life.proofs.Promises.{new_sound, one_more, promised, Sound, stays}
 use Rattle.resident.specs.declared.resident.Resident.{Resident}
 use Rattle.runs.specs.Events.{Event}

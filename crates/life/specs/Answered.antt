@@ -62,6 +62,7 @@ pub data Answered (rules : Rules) : Standing → Call → Answer → Standing �
       → Answered rules (running rs l es) (Arrive n b) (Refused f) (running rs l es)
   ticks : {rs : List Resident} {l : Listing} {es : List Event} {served done late : ℕ} {ran : List (Option Next)}
       → Granted (length rules.tags) (state_of rs es) (ticked served done)
+      → length ran ≡ 16
       → Ran (state_of rs es) served ran
       → (state_of rs (es ++ ticked served done ∷ [])).lates ≡ (state_of rs es).lates + late
       → Answered rules (running rs l es) (Tick served done) (Ticked ran late) (running rs l (es ++ ticked served done ∷ []))

@@ -4,7 +4,9 @@
 --   RefusedExactly rules s call a   a text that passes the questions before the last one of loading is refused by that one exactly if all its placements have a late run
 --   Promised rules s entry t        the call is answered by the rules, and keeps both promises
 --   Lives rules s history t         so does every call of the history, on a board that stands as s before it and as t after it
-use Rattle.std.specs.Prelude.{◌≡◌, ◌↔◌, ℕ, List, [], ◌∷◌, length}
+--   Said, said call                 a call by what it says, wherever its text lies
+--   LifeDetermined                  by lawful rules, the calls of a history on a new board determine what comes of each
+use Rattle.std.specs.Prelude.{◌≡◌, ◌↔◌, ℕ, List, [], ◌∷◌, length, map}
 use Rattle.board.specs.declared.refusal.Refusal.TheVariants.{NoPlacement}
 use Rattle.board.specs.Loading.{Comes, SomePossible}
 use Rattle.board.specs.Placing.{Rules}
@@ -18,7 +20,7 @@ use Rattle.life.specs.Standing.{running, Standing, state_of, stopped, total_of}
 use Rattle.resident.specs.declared.resident.Resident.{Resident}
 use Rattle.runs.specs.Events.{Event}
 use Rattle.runs.specs.Runs.{masks, OnTime, Supplied}
-use Rattle.seated.specs.Placement.{MustRefuse}
+use Rattle.seated.specs.Placement.{LawfulRules, MustRefuse}
 use Rattle.seated.specs.Waits.{InOrder}
 use Rattle.task.specs.declared.job.Job.{Job}
 use Rattle.text.specs.JobText.{Reads}
@@ -53,3 +55,22 @@ pub data Lives (rules : Rules) : Standing → List Entry → Standing → Type 0
   ends : {s : Standing} → Lives rules s [] s
   goes_on : {s t u : Standing} {entry : Entry} {history : List Entry}
       → Promised rules s entry t → Lives rules t history u → Lives rules s (entry ∷ history) u
+
+pub data Said : Type 0 where
+  loading : List ℕ → Said
+  other : Call → Said
+
+abbrev pub said : Call → Said
+said (Load text) = loading text.now
+said (Unload n) = other (Unload n)
+said Start = other Start
+said (Arrive n b) = other (Arrive n b)
+said (Tick served done) = other (Tick served done)
+said Stop = other Stop
+
+abbrev pub LifeDetermined : Type 0
+LifeDetermined =
+    (rules : Rules) → LawfulRules rules
+    → (one two : List Entry) (s t : Standing) → Lives rules (stopped [] rules.listing) one s → Lives rules (stopped [] rules.listing) two t
+    → map (λ (e : Entry). said e.call) one ≡ map (λ (e : Entry). said e.call) two
+    → (map (λ (e : Entry). e.answer) one ≡ map (λ (e : Entry). e.answer) two) × (map (λ (e : Entry). e.late_total) one ≡ map (λ (e : Entry). e.late_total) two)

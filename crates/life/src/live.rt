@@ -1,6 +1,6 @@
 //! The whole life of a board.
 ghost use Rattle.std.specs.Prelude.{◌≡◌, [], map};
-ghost use Rattle.life.specs.Lives.{Lives};
+ghost use Rattle.life.specs.Lives.{LifeDetermined, Lives};
 ghost use Rattle.life.specs.Standing.{Standing, stopped};
 
 use crate::call::{Call, Entry};
@@ -11,6 +11,7 @@ use order::order::EngineOrder;
 use slack::rule::SlackRule;
 
 /// Makes the calls of a history on a new board, one after the other, and writes beside each what came of it.
+#[tactic(auto, using(crate::proofs::Determining::life_determined))]
 pub fn live<P: Supply + Drop, R: SlackRule + Drop, O: EngineOrder + Drop>(
     platform: P,
     rule: R,
@@ -19,6 +20,7 @@ pub fn live<P: Supply + Drop, R: SlackRule + Drop, O: EngineOrder + Drop>(
 )
     ensures calls { map (λ e. e.call) history.new ≡ map (λ e. e.call) history.old }
     ensures lives { (end : Standing) × Lives (record { tags = P.Roster.tags platform; supply = P.Supply.supply platform; local = R.SlackRule.local rule; listing = O.EngineOrder.listing order }) (stopped [] (O.EngineOrder.listing order)) history.new end }
+    ensures determined { LifeDetermined }
 {
     let mut standing = AnyBoard::Stopped(Board::new(platform, rule, order));
     for entry in history.iter_mut() {

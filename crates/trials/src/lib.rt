@@ -10,6 +10,8 @@ mod job_cases;
 #[cfg(test)]
 mod platform_cases;
 #[cfg(test)]
+mod run_tests;
+#[cfg(test)]
 mod seat_cases;
 
 #[cfg(test)]

@@ -18,30 +18,30 @@ returns-then-is_short-clause-fits g c =
 pub returns-in_default-clause-fits : goal.returns-in_default-clause-fits
 returns-in_default-clause-fits g c =
     let s = g.P.Supply.supply c.args.platform.now c.args.engine in
-    let t = c.loop-ticks.ticks in
+    let t = c.loop.ticks in
     let cs = map (λ (b : Bor Claim). b.now) c.args.claims.now in
     let more : given_of_all cs t ≤ c.from-served.result → ⊥ = c.in_default.ensures.spare in
-    let far : min t 28800 ≡ t = omega (arith, c.loop-ticks.invariant.within) in
+    let far : min t 28800 ≡ t = omega (arith, c.loop.invariant.within) in
     λ ps st. (λ y. absurd (both_ways false refl (sym y)), λ fit. absurd (more (omega (arith, given_in_all ps cs st t, fit t, c.supply.ensures, c.from-served.ensures, ap s far))))
 
 pub spare-requires : goal.spare-requires
-spare-requires g c = c.loop-ticks.invariant.kept
+spare-requires g c = c.loop.invariant.kept
 
-pub loop-ticks-init : goal.loop-ticks-init
-loop-ticks-init g c = record {
+pub loop-init : goal.loop-init
+loop-init g c = record {
   within = omega arith;
   passed = λ ps st n low high. absurd (omega arith);
   kept = kept_none (map (λ (b : Bor Claim). b.now) c.args.claims.now) 129;
 }
 
-pub loop-ticks-preserved : goal.loop-ticks-preserved
-loop-ticks-preserved g c =
+pub loop-preserved : goal.loop-preserved
+loop-preserved g c =
     let p = c.args.platform.now in
     let e = c.args.engine in
     let s = g.P.Supply.supply p e in
-    let t = c.loop-ticks.ticks in
+    let t = c.loop.ticks in
     let cs = map (λ (b : Bor Claim). b.now) c.args.claims.now in
-    let inv = c.loop-ticks.invariant in
+    let inv = c.loop.invariant in
     let m = c.least_for.result in
     let far : min t 28800 ≡ t = omega (arith, inv.within) in
     record {
@@ -53,17 +53,17 @@ loop-ticks-preserved g c =
       kept = c.in-Some.ensures.kept;
     }
 
-pub returns-clause-fits : goal.returns-clause-fits
-returns-clause-fits g c =
+pub returns-then-ticks-eq0-clause-fits : goal.returns-then-ticks-eq0-clause-fits
+returns-then-ticks-eq0-clause-fits g c =
     let p = c.args.platform.now in
     let e = c.args.engine in
     let cs = map (λ (b : Bor Claim). b.now) c.args.claims.now in
-    λ ps st. (λ _. settled (g.P.Supply.supply p e) _ _ (g.P.Supply.laws p e) ps cs st c.common_multiple-farthest.result c.common_multiple-farthest.ensures.some c.common_multiple-farthest.ensures.least (λ n some few. c.loop-ticks.invariant.passed ps st n (omega arith) few), λ _. refl)
+    λ ps st. (λ _. settled (g.P.Supply.supply p e) _ _ (g.P.Supply.laws p e) ps cs st c.common_multiple-farthest.result c.common_multiple-farthest.ensures.some c.common_multiple-farthest.ensures.least (λ n some few. c.loop.invariant.passed ps st n (omega arith) few), λ _. refl)
 
-pub returns-clause-paced : goal.returns-clause-paced
-returns-clause-paced g c =
+pub returns-then-ticks-eq0-clause-paced : goal.returns-then-ticks-eq0-clause-paced
+returns-then-ticks-eq0-clause-paced g c =
     let p = c.args.platform.now in
     let e = c.args.engine in
     let s = g.P.Supply.supply p e in
     let cs = map (λ (b : Bor Claim). b.now) c.args.claims.now in
-    λ ps st _. paced s _ _ (g.P.Supply.laws p e) ps cs st (settled s _ _ (g.P.Supply.laws p e) ps cs st c.common_multiple-farthest.result c.common_multiple-farthest.ensures.some c.common_multiple-farthest.ensures.least (λ n some few. c.loop-ticks.invariant.passed ps st n (omega arith) few))
+    λ ps st _. paced s _ _ (g.P.Supply.laws p e) ps cs st (settled s _ _ (g.P.Supply.laws p e) ps cs st c.common_multiple-farthest.result c.common_multiple-farthest.ensures.some c.common_multiple-farthest.ensures.least (λ n some few. c.loop.invariant.passed ps st n (omega arith) few))

@@ -5,12 +5,9 @@ use Rattle.theory.specs.Demand.{demand_of_all}
 use Rattle.theory.specs.Pattern.{Pattern}
 use Rattle.fit.proofs.fits.shortage.Given as goal
 
-abbrev pub invariant-loop-ticks : goal.invariant-loop-ticks
-invariant-loop-ticks g l = record {
+abbrev pub invariant-loop : goal.invariant-loop
+invariant-loop g l = record {
   within : l.ticks ≤ l.farthest;
   passed : (ps : List Pattern) → Stated ps (map (λ c. c.now) l.claims) → (n : ℕ) → l.ticks < n → n ≤ l.farthest → demand_of_all ps n ≤ g.P.Supply.supply l.platform l.engine n;
   kept : Kept (map (λ c. c.now) l.claims) l.kept;
 }
-
-abbrev pub decreases-loop-ticks : goal.decreases-loop-ticks
-decreases-loop-ticks g l = l.ticks

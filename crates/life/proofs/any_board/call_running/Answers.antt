@@ -1,11 +1,7 @@
-use Rattle.std.proofs.Common.{rules, ◌≡◌, ap, subst, sym, ◌∙◌, length, List}
+use Rattle.std.proofs.Common.{rules, ap, subst, sym, length}
 use Rattle.board.specs.Residents.{jobs}
-use Rattle.dispatch.specs.Kept.{kept}
-use Rattle.life.specs.Answered.{Answered}
 use Rattle.life.specs.declared.call.Answer.TheVariants.{Done, Refused}
 use Rattle.life.specs.declared.call.Call.{Call}
-use Rattle.life.specs.declared.call.Call.TheVariants.{Arrive, Tick}
-use Rattle.life.specs.Standing.{running, state_of}
 use Rattle.life.proofs.Answering.{arrival_granted, arrival_grants, arrival_not, Goes, running_takes_not}
 use Rattle.running.specs.View.{view}
 use Rattle.life.proofs.any_board.call_running.Goals as goal

@@ -1,4 +1,4 @@
-use Rattle.std.proofs.Common.{rules, ◌≡◌}
+use Rattle.std.proofs.Common.{rules}
 use Rattle.life.proofs.Answering.{load_granted, load_refused, stopped_takes_not, unload_granted, unload_refused}
 use Rattle.life.proofs.any_board.call_stopped.Goals as goal
 

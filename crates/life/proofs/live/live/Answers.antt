@@ -1,16 +1,10 @@
-use Rattle.std.proofs.Common.{rules, ◌≡◌, ◌<◌, ◌≤◌, [], List, None, get_or, length, take, refl, sym, ap, subst, ◌∙◌, arith}
-use Rattle.std.proofs.lemmas.List.{take_all}
+use Rattle.std.proofs.Common.{rules, ◌<◌, [], None, length, refl, arith}
 use Rattle.board.specs.Placing.{Rules}
-use Rattle.life.specs.declared.any_board.AnyBoard.{AnyBoard as Code}
-use Rattle.life.specs.declared.call.Answer.{Answer}
 use Rattle.life.specs.declared.call.Answer.TheVariants.{Loaded}
 use Rattle.life.specs.declared.call.Call.TheVariants.{Load}
 use Rattle.life.specs.declared.call.Entry.{Entry}
 use Rattle.life.specs.InStep.{board_of}
-use Rattle.life.specs.Lives.{Lives}
-use Rattle.life.specs.Standing.{stopped}
 use Rattle.life.proofs.SoFar.{all_calls, no_call, one_joined, rules_of}
-use Rattle.runs.specs.Events.{Event}
 use Rattle.seated.proofs.Theorems.{lawful_rules}
 use Rattle.seated.specs.Placement.{LawfulRules}
 use Rattle.life.proofs.live.live.Goals as goal

@@ -1,4 +1,4 @@
-use Rattle.std.proofs.Common.{rules, ◌≡◌, List, refl, subst, sym}
+use Rattle.std.proofs.Common.{◌≡◌, List, refl, subst, sym}
 use Rattle.board.specs.declared.board.Board.{Board}
 use Rattle.board.specs.Placing.{Rules}
 use Rattle.board.specs.Residents.{jobs}

@@ -1,4 +1,4 @@
-use Rattle.std.proofs.Common.{rules, ◌≡◌, sym, ap, ◌∙◌}
+use Rattle.std.proofs.Common.{sym, ap}
 use Rattle.life.specs.InStep.{board_of}
 use Rattle.life.proofs.Answering.{turn_not_running, turn_not_stopped, turn_start, turn_stop}
 use Rattle.life.proofs.any_board.AnyBoard.turned.Goals as goal
