@@ -1,0 +1,3 @@
+pub use Rattle.listing.specs.Listing
+pub use Rattle.rehearsal.specs.Rehearsal
+pub mod Writing
