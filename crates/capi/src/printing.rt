@@ -1,5 +1,5 @@
 //! What `seat` and `rehearse` print, in a caller's buffer.
-ghost use Rattle.capi.specs.Writing.{Hands};
+ghost use Rattle.capi.specs.Printing.{Hands};
 ghost use Rattle.listing.specs.Listing.{Lists};
 ghost use Rattle.rehearsal.specs.Rehearsal.{Rehearses};
 
