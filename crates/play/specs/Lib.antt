@@ -1,0 +1,4 @@
+pub mod Words
+pub mod Setup
+pub mod Name
+pub mod Call
