@@ -11,12 +11,14 @@ use order::order::EngineOrder;
 use running::running::Running;
 use sheet::sheet::SHEET;
 use slack::rule::SlackRule;
+use std::alloc::{AllocError, Global};
 
+// Boxed, since a board is large: it would take its place on the stack again for each move.
 /// A board: it does not run, or it runs.
 #[derive(Drop)]
 pub(crate) enum AnyBoard<P, R, O> {
-    Stopped(Board<P, R, O>),
-    Running(Running<P, R, O>),
+    Stopped(Box<Board<P, R, O>>),
+    Running(Box<Running<P, R, O>>),
 }
 
 /// The answer where nothing is said of a call that was granted.
@@ -88,7 +90,18 @@ fn call_running<P: Roster, R, O>(board: &mut Running<P, R, O>, call: &Call<'_>) 
     }
 }
 
-impl<P: Supply, R: SlackRule, O: EngineOrder> AnyBoard<P, R, O> {
+impl<P: Supply + Drop, R: SlackRule + Drop, O: EngineOrder + Drop> AnyBoard<P, R, O> {
+    /// A board without jobs, which does not run.
+    pub(crate) fn new(
+        heap: Global,
+        platform: P,
+        rule: R,
+        order: O,
+    ) -> Result<AnyBoard<P, R, O>, AllocError> {
+        let board = Box::new(heap, Board::new(platform, rule, order))?;
+        Ok(AnyBoard::Stopped(board))
+    }
+
     /// Makes a call that neither starts nor stops a board.
     pub(crate) fn call(&mut self, call: &Call<'_>) -> Answer {
         match self {
@@ -97,17 +110,25 @@ impl<P: Supply, R: SlackRule, O: EngineOrder> AnyBoard<P, R, O> {
         }
     }
 
-    /// Starts or stops the board, as the call says.
-    pub(crate) fn turned(self, call: &Call<'_>) -> (AnyBoard<P, R, O>, Answer) {
+    /// The board started, if it does not run.
+    pub(crate) fn started(self, heap: Global) -> Result<(AnyBoard<P, R, O>, Answer), AllocError> {
         match self {
-            AnyBoard::Stopped(board) => match *call {
-                Call::Start => (AnyBoard::Running(Running::start(board)), Answer::Done),
-                _ => (AnyBoard::Stopped(board), Answer::NotTaken),
-            },
-            AnyBoard::Running(board) => match *call {
-                Call::Stop => (AnyBoard::Stopped(board.stop()), Answer::Done),
-                _ => (AnyBoard::Running(board), Answer::NotTaken),
-            },
+            AnyBoard::Stopped(board) => {
+                let running = Box::new(heap, Running::start(Box::into_inner(board)))?;
+                Ok((AnyBoard::Running(running), Answer::Done))
+            }
+            AnyBoard::Running(_) => Ok((self, Answer::NotTaken)),
+        }
+    }
+
+    /// The board stopped, if it runs.
+    pub(crate) fn stopped(self, heap: Global) -> Result<(AnyBoard<P, R, O>, Answer), AllocError> {
+        match self {
+            AnyBoard::Running(running) => {
+                let board = Box::new(heap, Box::into_inner(running).stop())?;
+                Ok((AnyBoard::Stopped(board), Answer::Done))
+            }
+            AnyBoard::Stopped(_) => Ok((self, Answer::NotTaken)),
         }
     }
 }

@@ -5,7 +5,6 @@ use crate::call::{Call, read_call};
 use crate::setup::{Order, Platform, Setup, Slack, read_setup};
 use crate::texts::{lines, texts};
 use crate::whole::read_whole;
-use board::board::Board;
 use engine::supply::Supply;
 use order::fullest::Fullest;
 use order::order::EngineOrder;
@@ -27,10 +26,10 @@ struct History<'a, 'b> {
 /// The answers to the calls of a history, on a board that nothing was called on yet.
 fn answers<P: Supply + Drop, R: SlackRule + Drop, O: EngineOrder + Drop>(
     heap: Global,
-    board: Board<P, R, O>,
+    board: AnyBoard<P, R, O>,
     history: History<'_, '_>,
 ) -> Result<String, AllocError> {
-    let mut standing = AnyBoard::Stopped(board);
+    let mut board = board;
     let mut answers = String::new(heap);
     for (index, line) in history.lines.iter().enumerate().skip(1) {
         let Some(call) = read_call(line, history.texts) else {
@@ -39,12 +38,17 @@ fn answers<P: Supply + Drop, R: SlackRule + Drop, O: EngineOrder + Drop>(
             return Ok(answers);
         };
         let answer = match call {
-            Call::Start | Call::Stop => {
-                let (next, answer) = standing.turned(&call);
-                standing = next;
+            Call::Start => {
+                let (started, answer) = board.started(heap)?;
+                board = started;
                 answer
             }
-            _ => standing.call(&call),
+            Call::Stop => {
+                let (stopped, answer) = board.stopped(heap)?;
+                board = stopped;
+                answer
+            }
+            _ => board.call(&call),
         };
         write!(answers, "{answer}")?;
     }
@@ -60,18 +64,26 @@ fn answers_on<P: Supply + Drop>(
 ) -> Result<String, AllocError> {
     match (setup.slack, setup.order) {
         (Slack::Even, Order::Fullest) => {
-            answers(heap, Board::new(platform, Even, Fullest), history)
+            answers(heap, AnyBoard::new(heap, platform, Even, Fullest)?, history)
         }
         (Slack::Even, Order::Rota) => {
-            answers(heap, Board::new(platform, Even, Rota::new()), history)
+            answers(
+                heap,
+                AnyBoard::new(heap, platform, Even, Rota::new())?,
+                history,
+            )
         }
         (Slack::Proportional, Order::Fullest) => {
-            answers(heap, Board::new(platform, Proportional, Fullest), history)
+            answers(
+                heap,
+                AnyBoard::new(heap, platform, Proportional, Fullest)?,
+                history,
+            )
         }
         (Slack::Proportional, Order::Rota) => {
             answers(
                 heap,
-                Board::new(platform, Proportional, Rota::new()),
+                AnyBoard::new(heap, platform, Proportional, Rota::new())?,
                 history,
             )
         }
