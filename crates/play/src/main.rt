@@ -7,6 +7,8 @@ mod call;
 mod name;
 mod play;
 mod setup;
+#[cfg(test)]
+mod tests;
 mod texts;
 mod whole;
 mod words;
