@@ -1,4 +1,5 @@
 //! What calls answer.
+ghost use Rattle.play.specs.Answer.{answer_text};
 
 use board::refusal::Refusal;
 use dispatch::candidate::Next;
@@ -70,6 +71,8 @@ impl fmt::Display for Characters<'_> {
 
 /// The lines of an answer.
 impl fmt::Display for Answer {
+    ghost output = { answer_text };
+
     fn fmt<W: fmt::Write>(&self, f: &mut fmt::Formatter<W>) -> fmt::Result {
         match self {
             Answer::Done => f.write_str("answer=0\n"),

@@ -1,5 +1,9 @@
 //! A board between two calls.
-ghost use Rattle.std.specs.Prelude.{◌≡◌, min};
+ghost use Rattle.std.specs.Prelude.{◌≡◌, [], false, min, not, true, IfErr, IfOk, OnOk};
+ghost use Rattle.board.specs.Residents.{jobs};
+ghost use Rattle.play.specs.Answer.{is_made};
+ghost use Rattle.play.specs.declared.answer.Answer.TheVariants.{Done, Refused, Sheet};
+ghost use Rattle.play.specs.Standing.{board_of, is_running, takes};
 
 use crate::answer::Answer;
 use crate::call::Call;
@@ -22,7 +26,10 @@ pub(crate) enum AnyBoard<P, R, O> {
 }
 
 /// The answer where nothing is said of a call that was granted.
-fn done<T: Copy>(answer: Result<T, Refusal>) -> Answer {
+fn done<T: Copy>(answer: Result<T, Refusal>) -> Answer
+    ensures granted { OnOk answer (result ≡ Done) }
+    ensures refused { IfErr answer (λ f. result ≡ Refused f) }
+{
     match answer {
         Ok(_) => Answer::Done,
         Err(refusal) => Answer::Refused { refusal },
@@ -30,7 +37,10 @@ fn done<T: Copy>(answer: Result<T, Refusal>) -> Answer {
 }
 
 /// The answer with a sheet that was written into a buffer.
-fn written(buffer: [u8; SHEET], answer: Result<usize, Refusal>) -> Answer {
+fn written(buffer: [u8; SHEET], answer: Result<usize, Refusal>) -> Answer
+    ensures granted { IfOk answer (λ n. result ≡ Sheet buffer n) }
+    ensures refused { IfErr answer (λ f. result ≡ Refused f) }
+{
     match answer {
         Ok(length) => Answer::Sheet { buffer, length },
         Err(refusal) => Answer::Refused { refusal },
@@ -48,7 +58,10 @@ fn buffer_length(length: u32) -> usize
 fn call_stopped<P: Supply, R: SlackRule, O: EngineOrder>(
     board: &mut Board<P, R, O>,
     call: &Call<'_>,
-) -> Answer {
+) -> Answer
+    ensures made { is_made result ≡ takes false call.now }
+    ensures not_made { takes false call.now ≡ false → board.new ≡ board.old }
+{
     match *call {
         Call::Load { text } => done(board.load(text)),
         Call::Unload { number } => done(board.unload(number)),
@@ -62,7 +75,9 @@ fn call_stopped<P: Supply, R: SlackRule, O: EngineOrder>(
 }
 
 /// Makes a tick on a board that runs.
-fn tick<P: Roster, R, O>(board: &mut Running<P, R, O>, served: u16, done: u16) -> Answer {
+fn tick<P: Roster, R, O>(board: &mut Running<P, R, O>, served: u16, done: u16) -> Answer
+    ensures { is_made result ≡ true }
+{
     let mut ran = [None; ENGINES];
     match board.tick(served, done, &mut ran) {
         Ok(late) => Answer::Ticked { late, ran },
@@ -71,7 +86,10 @@ fn tick<P: Roster, R, O>(board: &mut Running<P, R, O>, served: u16, done: u16) -
 }
 
 /// Makes a call on a board that runs, but does not stop it.
-fn call_running<P: Roster, R, O>(board: &mut Running<P, R, O>, call: &Call<'_>) -> Answer {
+fn call_running<P: Roster, R, O>(board: &mut Running<P, R, O>, call: &Call<'_>) -> Answer
+    ensures made { is_made result ≡ takes true call.now }
+    ensures not_made { takes true call.now ≡ false → board.new ≡ board.old }
+{
     match *call {
         Call::Arrive { number, branch } => done(board.arrive(number, branch)),
         Call::Next { engine } => Answer::Next {
@@ -97,13 +115,21 @@ impl<P: Supply + Drop, R: SlackRule + Drop, O: EngineOrder + Drop> AnyBoard<P, R
         platform: P,
         rule: R,
         order: O,
-    ) -> Result<AnyBoard<P, R, O>, AllocError> {
+    ) -> Result<AnyBoard<P, R, O>, AllocError>
+        ensures state { IfOk result (λ b. is_running b ≡ false) }
+        ensures made { IfOk result (λ b. ((board_of b).platform ≡ platform) × ((board_of b).rule ≡ rule) × ((board_of b).order ≡ order)) }
+        ensures none { IfOk result (λ b. jobs (board_of b).residents ≡ []) }
+    {
         let board = Box::new(heap, Board::new(platform, rule, order))?;
         Ok(AnyBoard::Stopped(board))
     }
 
     /// Makes a call that neither starts nor stops a board.
-    pub(crate) fn call(&mut self, call: &Call<'_>) -> Answer {
+    pub(crate) fn call(&mut self, call: &Call<'_>) -> Answer
+        ensures made { is_made result ≡ takes (is_running self.old) call.now }
+        ensures not_made { takes (is_running self.old) call.now ≡ false → self.new ≡ self.old }
+        ensures state { is_running self.new ≡ is_running self.old }
+    {
         match self {
             AnyBoard::Stopped(board) => call_stopped(board, call),
             AnyBoard::Running(board) => call_running(board, call),
@@ -111,7 +137,11 @@ impl<P: Supply + Drop, R: SlackRule + Drop, O: EngineOrder + Drop> AnyBoard<P, R
     }
 
     /// The board started, if it does not run.
-    pub(crate) fn started(self, heap: Global) -> Result<(AnyBoard<P, R, O>, Answer), AllocError> {
+    pub(crate) fn started(self, heap: Global) -> Result<(AnyBoard<P, R, O>, Answer), AllocError>
+        ensures board { IfOk result (λ p. board_of p.0 ≡ board_of self) }
+        ensures made { IfOk result (λ p. is_made p.1 ≡ not (is_running self)) }
+        ensures runs { IfOk result (λ p. is_running p.0 ≡ true) }
+    {
         match self {
             AnyBoard::Stopped(board) => {
                 let running = Box::new(heap, Running::start(Box::into_inner(board)))?;
@@ -122,7 +152,11 @@ impl<P: Supply + Drop, R: SlackRule + Drop, O: EngineOrder + Drop> AnyBoard<P, R
     }
 
     /// The board stopped, if it runs.
-    pub(crate) fn stopped(self, heap: Global) -> Result<(AnyBoard<P, R, O>, Answer), AllocError> {
+    pub(crate) fn stopped(self, heap: Global) -> Result<(AnyBoard<P, R, O>, Answer), AllocError>
+        ensures board { IfOk result (λ p. board_of p.0 ≡ board_of self) }
+        ensures made { IfOk result (λ p. is_made p.1 ≡ is_running self) }
+        ensures stops { IfOk result (λ p. is_running p.0 ≡ false) }
+    {
         match self {
             AnyBoard::Running(running) => {
                 let board = Box::new(heap, Box::into_inner(running).stop())?;

@@ -1,7 +1,9 @@
 //! Reading a platform that serves every tick.
-ghost use Rattle.std.specs.Prelude.{◌≡◌, ◌≤◌, length, map};
+ghost use Rattle.std.specs.Prelude.{◌≡◌, ◌≤◌, length, map, MatchResult};
 ghost use Rattle.engine.specs.Roster.{Rostered};
 ghost use Rattle.engine.specs.Tags.{tag_list};
+ghost use Rattle.play.specs.Whole.{WholeReads};
+ghost use Rattle.text.specs.PlatformText.{Refused};
 
 use engine::roster::ENGINES;
 use engine::tags::Tags;
@@ -25,7 +27,9 @@ fn whole_of(engines: &[Engine]) -> Whole
 }
 
 /// The engines of a platform text, with its tags and without its marks.
-pub(crate) fn read_whole(text: &[u8]) -> Result<Whole, Fault> {
+pub(crate) fn read_whole(text: &[u8]) -> Result<Whole, Fault>
+    ensures { MatchResult result (WholeReads text.now) (Refused text.now) }
+{
     let platform = read_platform(text)?;
     Ok(whole_of(&platform.engines))
 }
