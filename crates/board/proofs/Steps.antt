@@ -9,7 +9,7 @@ use Rattle.std.proofs.lemmas.List.{append-nil, append_assoc, length-take, map-ap
 use Rattle.std.proofs.lemmas.List.Elements.{All-append, All-cons, All-nil, filter_more}
 use Rattle.std.proofs.lemmas.List.FromFn.{get_or-range_with_len}
 use Rattle.std.proofs.lemmas.Option.{none-some, same_Some, slice_get-get_or, slice_get_past}
-use Rattle.board.specs.Placing.{FirstOf, FitsOn, Rules}
+use Rattle.board.specs.Placing.{FitsOn, Rules}
 use Rattle.board.proofs.Asking.{kept_few}
 use Rattle.board.proofs.Listed.{few_listed, stands}
 use Rattle.engine.specs.Roster.{Rostered, tag_of}
@@ -104,8 +104,12 @@ each_ok P Q (Err e) each one = tt
 
 -- where the list ends at a place, or has no more than 16 places, all engines of the tag were tried
 module _ (rules : Rules) (rs : List Resident) (p : Pattern) (g : ℕ) (es : List ℕ) (each : EachOnce rules.tags g es) (place : ℕ) (before : NoneBefore rules rs p es place) where
-  pub ended_nowhere : slice_get es place ≡ None → FirstOf rules rs p g es None
+  -- p fits on no engine of the tag
+  abbrev Nowhere : Type 0
+  Nowhere = (e : ℕ) → tag_of rules.tags e ≡ Some g → FitsOn rules.supply rs e p → ⊥
+
+  pub ended_nowhere : slice_get es place ≡ None → Nowhere
   ended_nowhere none = all_tried rules rs p es place before g each (ends_here es place none)
 
-  pub past_nowhere : Rostered rules.tags → 16 ≤ place → FirstOf rules rs p g es None
+  pub past_nowhere : Rostered rules.tags → 16 ≤ place → Nowhere
   past_nowhere rostered past = all_tried rules rs p es place before g each (let few = few_listed rules.tags g es rostered each in omega arith)

@@ -5,7 +5,6 @@
 --   KnownStuck rules rs p known    some part of the plan p asks too much of each engine e of its tag, in known e ticks
 --   tried rules rs g               the engines of the tag g, in the order in which they are tried
 --   FirstFit rules rs p es e       e is the first of the engines es on which p fits
---   FirstOf rules rs p g es o      o is the first of the engines es on which p fits, or nothing where it fits on no engine of the tag g
 --   RoomsOn supply rs rooms        each of the rooms is what the residents rs leave on the engine at its place, if it is there
 --   Sits rules rs p s              the seat s of the plan p is on the first engine on which its part fits
 --   IsPlaced rules rs j c r        r is the job j under the choice c, each part on the first engine on which it fits
@@ -13,7 +12,7 @@
 --   CannotBePlaced rules rs j c    the choice c is not possible, or some part is stuck
 --   Places rules rs j r            r is the job j under the first possible choice that can be placed
 --   tellings r                     the tag and the engine of each part of r, by rising tag
-use Rattle.std.specs.Prelude.{◌≡◌, ℕ, ◌<◌, true, List, [], ◌∷◌, map, Option, None, Some, slice_get}
+use Rattle.std.specs.Prelude.{◌≡◌, ℕ, ◌<◌, true, List, [], ◌∷◌, map, Option, Some, slice_get}
 use Rattle.std.specs.List.{All}
 use Rattle.board.specs.Asked.{asked_on, claims_on, loads}
 use Rattle.engine.specs.Roster.{tag_of}
@@ -62,10 +61,6 @@ pub record FirstFit (rules : Rules) (rs : List Resident) (p : Pattern) (es : Lis
   pub there : slice_get es place ≡ Some e
   pub fits : FitsOn rules.supply rs e p
   pub none_before : (k d : ℕ) → k < place → slice_get es k ≡ Some d → FitsOn rules.supply rs d p → ⊥
-
-abbrev pub FirstOf : Rules → List Resident → Pattern → ℕ → List ℕ → Option ℕ → Type 0
-FirstOf rules rs p g es None = (e : ℕ) → tag_of rules.tags e ≡ Some g → FitsOn rules.supply rs e p → ⊥
-FirstOf rules rs p g es (Some e) = FirstFit rules rs p es e
 
 abbrev pub RoomsOn : (ℕ → ℕ → ℕ) → List Resident → List (Option Room) → Type 0
 RoomsOn supply rs rooms = (e : ℕ) (room : Room) → slice_get rooms e ≡ Some (Some room) → Leaves (supply e) (claims_on rs e) room

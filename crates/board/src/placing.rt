@@ -1,7 +1,7 @@
 //! Placing a job on the engines of a board.
 ghost use Rattle.std.specs.Prelude.{◌≡◌, ℕ, ◌<◌, ◌≤◌, ◌↔◌, [], ◌∷◌, IfOk, IfSome, IsNone, IsOk, IsTrue, MatchOption, Some, length, min, slice_index};
 ghost use Rattle.board.specs.Asked.{claims_on};
-ghost use Rattle.board.specs.Placing.{CannotBePlaced, FirstOf, FitsOn, KnownStuck, Places, RoomsOn, ShortOn};
+ghost use Rattle.board.specs.Placing.{CannotBePlaced, FitsOn, KnownStuck, Places, RoomsOn, ShortOn};
 ghost use Rattle.board.specs.Residents.{jobs};
 ghost use Rattle.engine.specs.Roster.{tag_of};
 ghost use Rattle.fit.specs.Room.{Leaves};
@@ -67,20 +67,42 @@ impl<P: Supply, R: SlackRule, O: EngineOrder> Board<P, R, O> {
     }
 
     /// The same by what the residents leave on the engine, which is found out where it is not known.
+    // Not inlined, since its table would lie in the frame of every load.
+    #[inline(never)]
     fn shortage_by_room(
         &self,
         engine: usize,
         claim: &Claim,
-        demands: &Demands,
         known: &mut Option<Room>,
     ) -> Option<u32>
-        requires same { demands.now.claim ≡ claim.now }
-        requires known { IfSome known.old (Leaves (P.Supply.supply self.now.platform engine) (claims_on (jobs self.now.residents) engine)) }
+        requires { IfSome known.old (Leaves (P.Supply.supply self.now.platform engine) (claims_on (jobs self.now.residents) engine)) }
         ensures fits { (p : Pattern) → States p claim.now → IsNone result ↔ FitsOn (P.Supply.supply self.now.platform) (jobs self.now.residents) engine p }
         ensures known { IfSome known.new (Leaves (P.Supply.supply self.now.platform engine) (claims_on (jobs self.now.residents) engine)) }
     {
         let room = known.get_or_insert_with(|| self.room(engine, claim));
-        room.shortage(demands)
+        room.shortage(&Demands::of(claim))
+    }
+
+    /// The same by a walk, and by what the residents leave where the walk is too long and there is a place for that.
+    fn shortage_on(
+        &self,
+        engine: usize,
+        claim: &Claim,
+        near: u32,
+        rooms: &mut [Option<Room>],
+    ) -> Result<Option<u32>, Unsettled>
+        requires { RoomsOn (P.Supply.supply self.now.platform) (jobs self.now.residents) rooms.old }
+        ensures fits { IfOk result (λ known. (p : Pattern) → States p claim.now → IsNone known ↔ FitsOn (P.Supply.supply self.now.platform) (jobs self.now.residents) engine p) }
+        ensures rooms { RoomsOn (P.Supply.supply self.now.platform) (jobs self.now.residents) rooms.new }
+        ensures settled { engine < length rooms.old → IsOk result }
+        ensures long { length rooms.new ≡ length rooms.old }
+    {
+        match self.shortage(engine, claim, near) {
+            Err(Unsettled) if engine < rooms.len() => {
+                Ok(self.shortage_by_room(engine, claim, &mut rooms[engine]))
+            }
+            answer => answer,
+        }
     }
 
     /// Whether in so many ticks, or in twice a belt cycle if that is less, the engine serves too little for what the claim states beside the residents.
@@ -121,83 +143,6 @@ impl<P: Supply, R: SlackRule, O: EngineOrder> Board<P, R, O> {
         false
     }
 
-    /// The first engine of the tag, in the order's list, on which the claim fits; nothing where it fits on none. Where an engine is short is kept.
-    fn first_by_walks(
-        &self,
-        tag: u32,
-        claim: &Claim,
-        loads: &[u32; ENGINES],
-        short: &mut [u32; ENGINES],
-    ) -> Result<Option<usize>, Unsettled>
-        ensures { IfOk result (λ found. (p : Pattern) → States p claim.now → FirstOf (record { tags = P.Roster.tags self.now.platform; supply = P.Supply.supply self.now.platform; local = R.SlackRule.local self.now.rule; listing = O.EngineOrder.listing self.now.order }) (jobs self.now.residents) p tag (O.EngineOrder.listing self.now.order [] (P.Roster.tags self.now.platform) tag loads.now) found) }
-    {
-        for place in 0..ENGINES {
-            let Some(engine) = self.order.place(&self.platform, tag, loads, place) else {
-                return Ok(None);
-            };
-            let Some(ticks) = self.shortage(engine, claim, short[engine])? else {
-                return Ok(Some(engine));
-            };
-            short[engine] = ticks;
-        }
-        Ok(None)
-    }
-
-    /// The same by what the residents leave on engines, where there are places for that.
-    // Not inlined, since its table would lie in the frame of every load.
-    #[inline(never)]
-    fn first_by_rooms(
-        &self,
-        tag: u32,
-        claim: &Claim,
-        loads: &[u32; ENGINES],
-        short: &mut [u32; ENGINES],
-        rooms: &mut [Option<Room>],
-    ) -> Result<Option<usize>, Unsettled>
-        requires { RoomsOn (P.Supply.supply self.now.platform) (jobs self.now.residents) rooms.old }
-        ensures first { IfOk result (λ found. (p : Pattern) → States p claim.now → FirstOf (record { tags = P.Roster.tags self.now.platform; supply = P.Supply.supply self.now.platform; local = R.SlackRule.local self.now.rule; listing = O.EngineOrder.listing self.now.order }) (jobs self.now.residents) p tag (O.EngineOrder.listing self.now.order [] (P.Roster.tags self.now.platform) tag loads.now) found) }
-        ensures rooms { RoomsOn (P.Supply.supply self.now.platform) (jobs self.now.residents) rooms.new }
-        ensures settled { 16 ≤ length rooms.old → IsOk result }
-        ensures long { length rooms.new ≡ length rooms.old }
-    {
-        if rooms.len() < ENGINES {
-            return Err(Unsettled);
-        }
-        let demands = Demands::of(claim);
-        for place in 0..ENGINES {
-            let Some(engine) = self.order.place(&self.platform, tag, loads, place) else {
-                return Ok(None);
-            };
-            let Some(ticks) = self.shortage_by_room(engine, claim, &demands, &mut rooms[engine])
-            else {
-                return Ok(Some(engine));
-            };
-            short[engine] = ticks;
-        }
-        Ok(None)
-    }
-
-    /// The same by walks, and by what the residents leave where a walk is too long.
-    fn first_fit(
-        &self,
-        tag: u32,
-        claim: &Claim,
-        loads: &[u32; ENGINES],
-        short: &mut [u32; ENGINES],
-        rooms: &mut [Option<Room>],
-    ) -> Result<Option<usize>, Unsettled>
-        requires { RoomsOn (P.Supply.supply self.now.platform) (jobs self.now.residents) rooms.old }
-        ensures first { IfOk result (λ found. (p : Pattern) → States p claim.now → FirstOf (record { tags = P.Roster.tags self.now.platform; supply = P.Supply.supply self.now.platform; local = R.SlackRule.local self.now.rule; listing = O.EngineOrder.listing self.now.order }) (jobs self.now.residents) p tag (O.EngineOrder.listing self.now.order [] (P.Roster.tags self.now.platform) tag loads.now) found) }
-        ensures rooms { RoomsOn (P.Supply.supply self.now.platform) (jobs self.now.residents) rooms.new }
-        ensures settled { 16 ≤ length rooms.old → IsOk result }
-        ensures long { length rooms.new ≡ length rooms.old }
-    {
-        match self.first_by_walks(tag, claim, loads, short) {
-            Ok(found) => Ok(found),
-            Err(Unsettled) => self.first_by_rooms(tag, claim, loads, short, rooms),
-        }
-    }
-
     /// The job under its first possible choice that can be placed, where no walk is too long or there are places for what the residents leave.
     fn place_beside(
         &self,
@@ -219,14 +164,21 @@ impl<P: Supply, R: SlackRule, O: EngineOrder> Board<P, R, O> {
                 continue;
             }
             let mut seats = Few::new(no_seat());
-            for tag in 0..PARTS as u32 {
+            'tags: for tag in 0..PARTS as u32 {
                 let Some(claim) = Claim::of(&plan, tag) else {
                     continue;
                 };
-                let Some(engine) = self.first_fit(tag, &claim, &loads, &mut short, rooms)? else {
-                    continue 'choices;
-                };
-                seats.push(Seat { tag, engine, claim }).unwrap();
+                for place in 0..ENGINES {
+                    let Some(engine) = self.order.place(&self.platform, tag, &loads, place) else {
+                        continue 'choices;
+                    };
+                    let Some(ticks) = self.shortage_on(engine, &claim, short[engine], rooms)? else {
+                        seats.push(Seat { tag, engine, claim }).unwrap();
+                        continue 'tags;
+                    };
+                    short[engine] = ticks;
+                }
+                continue 'choices;
             }
             return Ok(Some(Resident { plan, seats }));
         }

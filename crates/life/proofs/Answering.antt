@@ -95,10 +95,11 @@ module _ (rules : Rules) (rs : List Resident) (l : Listing) (es : List Event) (w
   tick_done served done late ran grants long is steps late_is =
       let after = keeps_tick rs es was now keeps served done steps in
       let now_lates : now.lates ≡ (state_of rs (es ++ ticked served done ∷ [])).lates = ap (λ (st : State). st.lates) after in
-      let was_lates : was.lates ≡ (state_of rs es).lates = ap (λ (st : State). st.lates) keeps in
-      (es ++ ticked served done ∷ [],
-       ticks grants long (ran_kept (state_of rs es) served ran (subst (λ (st : State). Ran st served ran) keeps is)) (sym now_lates ∙ late_is ∙ ap (λ n. n + late) was_lates),
-       after)
+      let was_lates : was.lates ≡ (state_of rs es).lates = ap (λ (st : State). st.lates) keeps in (
+        es ++ ticked served done ∷ [],
+        ticks grants long (ran_kept (state_of rs es) served ran (subst (λ (st : State). Ran st served ran) keeps is)) (sym now_lates ∙ late_is ∙ ap (λ n. n + late) was_lates),
+        after,
+      )
 
   pub tick_not : (served done : ℕ) (f : Refusal) → TickRefused (length rules.tags) was served done f → now ≡ was → Goes (Tick served done) (Refused f)
   tick_not served done f refused same =
@@ -115,40 +116,44 @@ module _ {P R O : Type 0} (rules : Rules) (listing : O → Listing) (self : Code
   Turns a after es = (fs : List Event) × Answered rules (stands listing self es) call a (stands listing after fs) × InStep after fs
 
   pub turn_start : (b : Board P R O) (r : RunningBoard P R O) (es : List Event) → self ≡ Stopped b → call ≡ Start → view r ≡ start (jobs_of (jobs b.residents)) → r.board ≡ b → Turns Done (Running r) es
-  turn_start b r es is started begins board =
-      ([],
-       subst (λ (s : Code P R O). Answered rules (stands listing s es) call Done (running (jobs r.board.residents) (listing r.board.order) [])) (sym is)
-       (subst (λ (k : Call). Answered rules (stopped (jobs b.residents) (listing b.order)) k Done (running (jobs r.board.residents) (listing r.board.order) [])) (sym started)
-       (subst (λ (x : Board P R O). Answered rules (stopped (jobs b.residents) (listing b.order)) Start Done (running (jobs x.residents) (listing x.order) [])) (sym board) starts)),
-       begins ∙ sym (kept_start (jobs_of (jobs b.residents))) ∙ ap (λ (x : Board P R O). kept (state_of (jobs x.residents) [])) (sym board))
+  turn_start b r es is started begins board = (
+    [],
+    subst (λ (s : Code P R O). Answered rules (stands listing s es) call Done (running (jobs r.board.residents) (listing r.board.order) [])) (sym is)
+        (subst (λ (k : Call). Answered rules (stopped (jobs b.residents) (listing b.order)) k Done (running (jobs r.board.residents) (listing r.board.order) [])) (sym started)
+        (subst (λ (x : Board P R O). Answered rules (stopped (jobs b.residents) (listing b.order)) Start Done (running (jobs x.residents) (listing x.order) [])) (sym board) starts)),
+    begins ∙ sym (kept_start (jobs_of (jobs b.residents))) ∙ ap (λ (x : Board P R O). kept (state_of (jobs x.residents) [])) (sym board),
+  )
 
   pub turn_stop : (r : RunningBoard P R O) (b : Board P R O) (es : List Event) → self ≡ Running r → call ≡ Stop → b ≡ r.board → Turns Done (Stopped b) es
-  turn_stop r b es is stopping board =
-      ([],
-       subst (λ (s : Code P R O). Answered rules (stands listing s es) call Done (stopped (jobs b.residents) (listing b.order))) (sym is)
-       (subst (λ (k : Call). Answered rules (running (jobs r.board.residents) (listing r.board.order) es) k Done (stopped (jobs b.residents) (listing b.order))) (sym stopping)
-       (subst (λ (x : Board P R O). Answered rules (running (jobs r.board.residents) (listing r.board.order) es) Stop Done (stopped (jobs x.residents) (listing x.order))) (sym board) stops)),
-       tt)
+  turn_stop r b es is stopping board = (
+    [],
+    subst (λ (s : Code P R O). Answered rules (stands listing s es) call Done (stopped (jobs b.residents) (listing b.order))) (sym is)
+        (subst (λ (k : Call). Answered rules (running (jobs r.board.residents) (listing r.board.order) es) k Done (stopped (jobs b.residents) (listing b.order))) (sym stopping)
+        (subst (λ (x : Board P R O). Answered rules (running (jobs r.board.residents) (listing r.board.order) es) Stop Done (stopped (jobs x.residents) (listing x.order))) (sym board) stops)),
+    tt,
+  )
 
   pub turn_not_stopped : (b : Board P R O) (es : List Event) → self ≡ Stopped b → turns call ≡ true → (call ≡ Start → ⊥) → Turns NotTaken (Stopped b) es
   turn_not_stopped b es is turning other =
       ([], subst (λ (s : Code P R O). Answered rules (stands listing s es) call NotTaken (stopped (jobs b.residents) (listing b.order))) (sym is) (not_taken (left call turning other)), tt) where
-      left : (k : Call) → turns k ≡ true → (k ≡ Start → ⊥) → taken (stopped (jobs b.residents) (listing b.order)) k ≡ false
-      left (Load text) turning other = absurd (let z : ◌≡◌ {A = Bool} false true = turning in cc)
-      left (Unload n) turning other = absurd (let z : ◌≡◌ {A = Bool} false true = turning in cc)
-      left Start turning other = absurd (other refl)
-      left (Arrive n b) turning other = refl
-      left (Tick served done) turning other = refl
-      left Stop turning other = refl
+        left : (k : Call) → turns k ≡ true → (k ≡ Start → ⊥) → taken (stopped (jobs b.residents) (listing b.order)) k ≡ false
+        left (Load text) turning other = absurd (let z : ◌≡◌ {A = Bool} false true = turning in cc)
+        left (Unload n) turning other = absurd (let z : ◌≡◌ {A = Bool} false true = turning in cc)
+        left Start turning other = absurd (other refl)
+        left (Arrive n b) turning other = refl
+        left (Tick served done) turning other = refl
+        left Stop turning other = refl
 
   pub turn_not_running : (r : RunningBoard P R O) (es : List Event) → self ≡ Running r → InStep self es → turns call ≡ true → (call ≡ Stop → ⊥) → Turns NotTaken (Running r) es
-  turn_not_running r es is keeps turning other =
-      (es, subst (λ (s : Code P R O). Answered rules (stands listing s es) call NotTaken (running (jobs r.board.residents) (listing r.board.order) es)) (sym is) (not_taken (left call turning other)),
-       subst (λ (s : Code P R O). InStep s es) is keeps) where
-      left : (k : Call) → turns k ≡ true → (k ≡ Stop → ⊥) → taken (running (jobs r.board.residents) (listing r.board.order) es) k ≡ false
-      left (Load text) turning other = refl
-      left (Unload n) turning other = refl
-      left Start turning other = refl
-      left (Arrive n b) turning other = absurd (let z : ◌≡◌ {A = Bool} false true = turning in cc)
-      left (Tick served done) turning other = absurd (let z : ◌≡◌ {A = Bool} false true = turning in cc)
-      left Stop turning other = absurd (other refl)
+  turn_not_running r es is keeps turning other = (
+    es,
+    subst (λ (s : Code P R O). Answered rules (stands listing s es) call NotTaken (running (jobs r.board.residents) (listing r.board.order) es)) (sym is) (not_taken (left call turning other)),
+    subst (λ (s : Code P R O). InStep s es) is keeps,
+  ) where
+    left : (k : Call) → turns k ≡ true → (k ≡ Stop → ⊥) → taken (running (jobs r.board.residents) (listing r.board.order) es) k ≡ false
+    left (Load text) turning other = refl
+    left (Unload n) turning other = refl
+    left Start turning other = refl
+    left (Arrive n b) turning other = absurd (let z : ◌≡◌ {A = Bool} false true = turning in cc)
+    left (Tick served done) turning other = absurd (let z : ◌≡◌ {A = Bool} false true = turning in cc)
+    left Stop turning other = absurd (other refl)

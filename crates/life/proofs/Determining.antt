@@ -51,11 +51,12 @@ module _ (rules : Rules) (lawful : LawfulRules rules) where
       let here = told_outcome rules s entry.call entry.answer after (outcome rules s after entry.call entry.answer p.answered) in
       let there = told_outcome rules v also.call also.answer later (outcome rules v later also.call also.answer q.answered) in
       let done = outcomes_same rules s v (told (said entry.call)) entry.answer also.answer after later same x y here
-          (subst (λ (c : Said). Outcome rules v (told c) also.answer later) (sym call) there) in
+      (subst (λ (c : Said). Outcome rules v (told c) also.answer later) (sym call) there) in
       let total : entry.late_total ≡ also.late_total = p.late_total ∙ totals_same after later done.1 ∙ sym q.late_total in
-      let so_on = histories_same after later done.1 (stays rules lawful s after entry.call entry.answer x p.answered) (stays rules lawful v later also.call also.answer y q.answered) history more t u rest left others in
-      (ap (λ (a : Answer). a ∷ map (λ (e : Entry). e.answer) history) done.0 ∙ ap (λ l. also.answer ∷ l) so_on.0,
-       ap (λ (o : Option ℕ). o ∷ map (λ (e : Entry). e.late_total) history) total ∙ ap (λ l. also.late_total ∷ l) so_on.1)
+      let so_on = histories_same after later done.1 (stays rules lawful s after entry.call entry.answer x p.answered) (stays rules lawful v later also.call also.answer y q.answered) history more t u rest left others in (
+        ap (λ (a : Answer). a ∷ map (λ (e : Entry). e.answer) history) done.0 ∙ ap (λ l. also.answer ∷ l) so_on.0,
+        ap (λ (o : Option ℕ). o ∷ map (λ (e : Entry). e.late_total) history) total ∙ ap (λ l. also.late_total ∷ l) so_on.1,
+      )
 
 pub life_determined : LifeDetermined
 life_determined rules lawful one two s t first second calls =

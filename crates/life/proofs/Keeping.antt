@@ -69,9 +69,12 @@ module _ (st : State) where
       let (s, at, is) = kept_some (slot_of n st.slots) k (sym (slot_kept n st.slots) ∙ found) in
       (s, at, subst (λ (x : Slot). length x.job.branches ≤ b) (sym is) few)
   arrival_refused n b TooSoon (k, found, low, soon) =
-      let (s, at, is) = kept_some (slot_of n st.slots) k (sym (slot_kept n st.slots) ∙ found) in
-      (s, at, subst (λ (x : Slot). b < length x.job.branches) (sym is) low,
-       subst (λ (m : ℕ). st.clock < m) (free_kept s.job s.arrivals) (subst (λ (x : Slot). st.clock < free_at x.job x.arrivals) (sym is) soon))
+      let (s, at, is) = kept_some (slot_of n st.slots) k (sym (slot_kept n st.slots) ∙ found) in (
+        s,
+        at,
+        subst (λ (x : Slot). b < length x.job.branches) (sym is) low,
+        subst (λ (m : ℕ). st.clock < m) (free_kept s.job s.arrivals) (subst (λ (x : Slot). st.clock < free_at x.job x.arrivals) (sym is) soon),
+      )
   arrival_refused n b NoEngine refused = refused
   arrival_refused n b LastClock refused = refused
   arrival_refused n b ShortBuffer refused = refused

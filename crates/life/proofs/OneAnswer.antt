@@ -86,9 +86,10 @@ module _ (rules : Rules) (rs qs : List Resident) (all : AllTwins rs qs) (l : Lis
       let numbers : x.number ≡ y.number = x.takes.its_number ∙ ap (λ (j : Run). j.number) twins.job ∙ sym y.takes.its_number in
       let told : x.told ≡ y.told = fun_ext (λ ts. x.takes.told ts ∙ ap (λ ps. l (ps ++ ts)) alike.seats ∙ sym (y.takes.told ts)) in
       let after : AllTwins x.after y.after =
-          subst (λ (v : List Resident). AllTwins v y.after) (sym x.takes.gained) (subst (λ (w : List Resident). AllTwins (rs ++ r ∷ []) w) (sym y.takes.gained) (twins_more rs qs r q all twins)) in
-      (x.kept.0 ∙ ap Loaded numbers ∙ sym y.kept.0,
-       subst (λ (v : Standing). SameStanding v u) (sym x.kept.1) (subst (λ (w : Standing). SameStanding (stopped x.after x.told) w) (sym y.kept.1) (after, told)))
+      subst (λ (v : List Resident). AllTwins v y.after) (sym x.takes.gained) (subst (λ (w : List Resident). AllTwins (rs ++ r ∷ []) w) (sym y.takes.gained) (twins_more rs qs r q all twins)) in (
+        x.kept.0 ∙ ap Loaded numbers ∙ sym y.kept.0,
+        subst (λ (v : Standing). SameStanding v u) (sym x.kept.1) (subst (λ (w : Standing). SameStanding (stopped x.after x.told) w) (sym y.kept.1) (after, told)),
+      )
   load_same a b t u (inl x) (inr (g, refused, kept)) =
       absurd ((determined rules qs l complete text).apart x.takes.job g (loaded_moves (at rules l) rs qs (twins_same rs qs all) text x.takes.job x.takes.loaded) refused)
   load_same a b t u (inr (f, refused, kept)) (inl y) =

@@ -51,7 +51,7 @@ module _ (local : Position → ℕ) (c : ℕ) (j k : Job) (same : SameJob k j) (
   pub job_same : job_at p f ≡ job_at q f
   job_same =
       let rows = map_one (branch f (nodes_of p) (tasks_where p is_sub_task)) (reached_rows p) (reached_rows q) [] rows_long
-          (λ i low. branch_same f (nodes_of p) (tasks_where p is_sub_task) (get_or (reached_rows p) i []) (get_or (reached_rows q) i []) (rows_say i)) in
+      (λ i low. branch_same f (nodes_of p) (tasks_where p is_sub_task) (get_or (reached_rows p) i []) (get_or (reached_rows q) i []) (rows_say i)) in
       ap (λ (l : List (List SubTask)). let x : Run = record { number = p.job.number; period = p.job.period; deadline = p.job.deadline; branches = l } in x) rows
       ∙ ap (λ n. made n p.job.period p.job.deadline f (nodes_of p) (tasks_where p is_sub_task) (reached_rows q)) (ap (λ (x : Job). x.number) a.its_job ∙ sym same.its_number ∙ sym (ap (λ (x : Job). x.number) b.its_job))
       ∙ ap (λ n. made q.job.number n p.job.deadline f (nodes_of p) (tasks_where p is_sub_task) (reached_rows q)) (ap (λ (x : Job). x.period) a.its_job ∙ sym same.its_period ∙ sym (ap (λ (x : Job). x.period) b.its_job))

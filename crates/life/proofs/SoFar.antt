@@ -52,8 +52,8 @@ module _ {P R O : Type 0} (tags : P → List ℕ) (supply : P → ℕ → ℕ �
         let rules = rules_of platform rule in
         let entry : Entry = record { call = (get_or history i d).call; answer = a; late_total = total } in
         let here : Made b after entry.call a far.events rules =
-            subst (λ (p : P). Made b after entry.call a far.events (rules_of p rule)) far.platform_is
-            (subst (λ (r : R). Made b after entry.call a far.events (rules_of (board_of b).platform r)) far.rule_is (made far.events far.in_step)) in
+        subst (λ (p : P). Made b after entry.call a far.events (rules_of p rule)) far.platform_is
+        (subst (λ (r : R). Made b after entry.call a far.events (rules_of (board_of b).platform r)) far.rule_is (made far.events far.in_step)) in
         let (fs, answered, keeps) = here in
         let s = stands listing b far.events in
         let t = stands listing after fs in

@@ -97,10 +97,7 @@ impl<P: Supply, R: SlackRule, O: EngineOrder> AnyBoard<P, R, O> {
     {
         match self {
             AnyBoard::Stopped(board) => match *call {
-                Call::Start => (
-                    AnyBoard::Running(Running::start(board)),
-                    Answer::Done,
-                ),
+                Call::Start => (AnyBoard::Running(Running::start(board)), Answer::Done),
                 _ => (AnyBoard::Stopped(board), Answer::NotTaken),
             },
             AnyBoard::Running(board) => match *call {

@@ -25,13 +25,20 @@ pub enum Call<'a> {
 #[derive(Debug, Clone, Copy, PartialEq, Eq)]
 pub enum Answer {
     /// The job of the number is loaded.
-    Loaded { number: u32 },
+    Loaded {
+        number: u32,
+    },
     /// It is done, and there is nothing to say.
     Done,
     /// What ran on each engine, and how many sub-tasks became late.
-    Ticked { ran: [Option<Next>; ENGINES], late: u32 },
+    Ticked {
+        ran: [Option<Next>; ENGINES],
+        late: u32,
+    },
     /// The first question that the call fails.
-    Refused { refusal: Refusal },
+    Refused {
+        refusal: Refusal,
+    },
     /// The call was not made: one that the board does not take while it runs, or only while it runs.
     NotTaken,
 }

@@ -3,8 +3,8 @@ ghost use Rattle.std.specs.Prelude.{◌≡◌, [], map};
 ghost use Rattle.life.specs.Lives.{LifeDetermined, Lives};
 ghost use Rattle.life.specs.Standing.{Standing, stopped};
 
-use crate::call::{Call, Entry};
 use crate::any_board::AnyBoard;
+use crate::call::{Call, Entry};
 use board::board::Board;
 use engine::supply::Supply;
 use order::order::EngineOrder;

@@ -3,3 +3,4 @@
 
 mod answer;
 pub mod listing;
+pub mod opening;

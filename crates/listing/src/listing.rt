@@ -1,42 +1,18 @@
 //! All that the seating program prints.
-ghost use Rattle.std.specs.Prelude.{◌≡◌, IfOk, MatchResult, string_bytes};
+ghost use Rattle.std.specs.Prelude.{◌≡◌, IfOk, string_bytes};
 ghost use Rattle.board.specs.Residents.{jobs};
-ghost use Rattle.listing.specs.Listing.{Answered, Lists, Opens, Stops};
+ghost use Rattle.listing.specs.Listing.{Answered, Lists};
 ghost use Rattle.listing.specs.Rules.{seat_rules};
 ghost use Rattle.std.specs.Option.{option_map};
 ghost use Rattle.worked.specs.Cases.{WorkedCases};
 
 use crate::answer::{SeatBoard, answer};
+use crate::opening::{Opened, open};
 use board::board::Board;
-use engine::calendar::Calendar;
 use order::fullest::Fullest;
 use slack::proportional::Proportional;
 use std::alloc::{AllocError, Global};
-use text::calendar_text::read_calendar;
-use text::fault::Fault;
 use text::texts::first_text;
-
-/// The most bytes that are read.
-pub const MOST: usize = 65_536;
-
-/// The platform of an input, and the job texts after it.
-#[derive(Debug, Clone, Copy)]
-struct Opened<'a> {
-    platform: Calendar,
-    texts: Option<&'a [u8]>,
-}
-
-/// What an input begins with, if it is not too long and its platform text is right.
-fn open(input: &[u8]) -> Result<Opened<'_>, Fault>
-    ensures { MatchResult result (λ o. Opens input.now o.platform (option_map (λ x. x.now) o.texts)) (Stops input.now) }
-{
-    if input.len() > MOST {
-        return Err(Fault::Size);
-    }
-    let (text, texts) = first_text(input);
-    let platform = read_calendar(text)?;
-    Ok(Opened { platform, texts })
-}
 
 /// The answers to job texts, one after the other, by a board that takes the jobs that it can place.
 #[tactic(auto, using(crate::proofs::Leftover::leftover_falls))]

@@ -4,6 +4,7 @@ ghost use Rattle.dispatch.specs.Ticking.{masked};
 ghost use Rattle.running.specs.Ticking.{NoOther, Ran, TickRefused, next_in};
 ghost use Rattle.running.specs.View.{view};
 ghost use Rattle.runs.specs.Events.{step, tick};
+ghost use Rattle.runs.specs.Theorems.{NextIsFirst};
 
 use crate::known::names_another;
 use crate::running::Running;
@@ -13,8 +14,10 @@ use engine::roster::{ENGINES, Roster};
 
 impl<P: Roster, R, O> Running<P, R, O> {
     /// What the engine runs next: of its ready sub-tasks the one with the earliest end, then the lowest job, then the lowest node; nothing where none is ready, or there is no such engine.
+    #[tactic(auto, using(runs::proofs::Choice::next_is_first))]
     pub fn next(&self, engine: usize) -> Option<Next>
-        ensures { result ≡ (if nat_lt engine (length (P.Roster.tags self.now.board.platform)) then next_in (view self.now) engine else None) }
+        ensures next { result ≡ (if nat_lt engine (length (P.Roster.tags self.now.board.platform)) then next_in (view self.now) engine else None) }
+        ensures first { NextIsFirst }
     {
         if engine < self.board.platform().engines() {
             self.table.next(engine)

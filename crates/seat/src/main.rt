@@ -1,7 +1,8 @@
 //! Reads a platform text and job texts from standard input, and prints the answers.
 #![tactic(auto)]
 
-use listing::listing::{MOST, listing};
+use listing::listing::listing;
+use listing::opening::MOST;
 use std::io;
 use std::io::Read;
 

@@ -14,7 +14,7 @@ pub loop-entry-init : goal.loop-entry-init
 loop-entry-init g c =
     let by : Rules = rules_of g.P.Roster.tags g.P.Supply.supply g.R.SlackRule.local g.O.EngineOrder.listing (g.O.EngineOrder.listing c.args.order) c.args.platform c.args.rule in
     let lawful : LawfulRules by =
-        lawful_rules by (g.P.Supply.cycle c.args.platform) (g.P.Supply.quota c.args.platform) (g.P.Supply.laws c.args.platform) (g.met.P.Supply.missing c.args.platform) (g.R.SlackRule.laws c.args.rule) (g.O.EngineOrder.complete c.args.order) in
+    lawful_rules by (g.P.Supply.cycle c.args.platform) (g.P.Supply.quota c.args.platform) (g.P.Supply.laws c.args.platform) (g.met.P.Supply.missing c.args.platform) (g.R.SlackRule.laws c.args.rule) (g.O.EngineOrder.complete c.args.order) in
     no_call g.P.Roster.tags g.P.Supply.supply g.R.SlackRule.local g.O.EngineOrder.listing (g.O.EngineOrder.listing c.args.order) c.args.platform c.args.rule lawful c.args.order refl c.new.result c.args.history.now c.new.ensures
 
 pub loop-entry-preserved : goal.loop-entry-preserved
@@ -22,7 +22,7 @@ loop-entry-preserved g c =
     let first = g.O.EngineOrder.listing c.args.order in
     let by : Rules = rules_of g.P.Roster.tags g.P.Supply.supply g.R.SlackRule.local g.O.EngineOrder.listing first c.args.platform c.args.rule in
     let lawful : LawfulRules by =
-        lawful_rules by (g.P.Supply.cycle c.args.platform) (g.P.Supply.quota c.args.platform) (g.P.Supply.laws c.args.platform) (g.met.P.Supply.missing c.args.platform) (g.R.SlackRule.laws c.args.rule) (g.O.EngineOrder.complete c.args.order) in
+    lawful_rules by (g.P.Supply.cycle c.args.platform) (g.P.Supply.quota c.args.platform) (g.P.Supply.laws c.args.platform) (g.met.P.Supply.missing c.args.platform) (g.R.SlackRule.laws c.args.rule) (g.O.EngineOrder.complete c.args.order) in
     let low : c.loop-entry.entry-index < length c.loop-entry.history = omega (arith, c.loop-entry-test.true, c.loop-entry.auto.history) in
     let d : Entry = record { call = Load (record { ref_ptr = (0, 0); now = [] }); answer = Loaded 0; late_total = None } in
     let made = one_joined g.P.Roster.tags g.P.Supply.supply g.R.SlackRule.local g.O.EngineOrder.listing first c.args.platform c.args.rule lawful c.loop-entry.standing c.match-entry.standing in

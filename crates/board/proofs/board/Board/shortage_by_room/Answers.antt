@@ -13,4 +13,4 @@ returns-clause-fits g c =
     let e = c.args.engine in
     let left : Leaves (g.P.Supply.supply me.platform e) (claims_on rs e) c.get_or_insert_with-room.result.now = search rules in
     λ p states.
-    c.shortage.ensures.fits (g.P.Supply.supply me.platform e) _ _ (claims_on rs e) (p ∷ asked_on rs e) (g.P.Supply.laws me.platform e) left (subst (States p) (sym c.requires.same) states, stated_on rs e)
+    c.shortage.ensures.fits (g.P.Supply.supply me.platform e) _ _ (claims_on rs e) (p ∷ asked_on rs e) (g.P.Supply.laws me.platform e) left (subst (States p) (sym c.of.ensures) states, stated_on rs e)

@@ -18,9 +18,9 @@ returns-in-Running-clause-answered g c = λ l0 es.
     let after = c.call_running.new.board in
     let listing = g.O.EngineOrder.listing in
     let by : Code g.row.P.Denot g.row.R.Denot g.row.O.Denot → Rules = λ s.
-        record { tags = g.P.Roster.tags (board_of s).platform; supply = g.P.Supply.supply (board_of s).platform; local = g.R.SlackRule.local (board_of s).rule; listing = l0 } in
+    record { tags = g.P.Roster.tags (board_of s).platform; supply = g.P.Supply.supply (board_of s).platform; local = g.R.SlackRule.local (board_of s).rule; listing = l0 } in
     let here = λ (keeps : InStep (Running r) es).
-        subst (λ (b : Board g.row.P.Denot g.row.R.Denot g.row.O.Denot). (fs : List Event) × Answered (by (Running r)) (stands listing (Running r) es) c.args.call.now c.call_running.result (running (jobs b.residents) (listing b.order) fs) × (view after ≡ kept (state_of (jobs b.residents) fs)))
-        (sym c.call_running.ensures.kept) (c.call_running.ensures.answered (by (Running r)) (listing r.board.order) es refl keeps) in
+    subst (λ (b : Board g.row.P.Denot g.row.R.Denot g.row.O.Denot). (fs : List Event) × Answered (by (Running r)) (stands listing (Running r) es) c.args.call.now c.call_running.result (running (jobs b.residents) (listing b.order) fs) × (view after ≡ kept (state_of (jobs b.residents) fs)))
+    (sym c.call_running.ensures.kept) (c.call_running.ensures.answered (by (Running r)) (listing r.board.order) es refl keeps) in
     subst (λ (s : Code g.row.P.Denot g.row.R.Denot g.row.O.Denot). InStep s es → (fs : List Event) × Answered (by s) (stands listing s es) c.args.call.now c.call_running.result (running (jobs after.board.residents) (listing after.board.order) fs) × (view after ≡ kept (state_of (jobs after.board.residents) fs)))
     (sym c.in-Running.is) here

@@ -11,8 +11,8 @@ use Rattle.running.specs.View.{view}
 use Rattle.running.proofs.Jobs.{as_many, tasks_same}
 use Rattle.running.proofs.running.Running.next.Goals as goal
 
-pub returns-then-engine-engines : goal.returns-then-engine-engines
-returns-then-engine-engines g c =
+pub returns-then-engine-engines-clause-next : goal.returns-then-engine-engines-clause-next
+returns-then-engine-engines-clause-next g c =
     let b = c.args.self.now in
     let e = c.args.engine in
     let rs = jobs b.board.residents in

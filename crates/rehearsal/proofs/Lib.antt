@@ -1,0 +1,3 @@
+pub mod JobTexts
+pub mod Masks
+pub mod Numbers
