@@ -1,18 +1,40 @@
-//! Tables of texts and the answers that they get. Tests only.
+//! Tables of texts and of whole inputs, and the answers that they get. Tests only.
 #![tactic(auto)]
 
 #[cfg(test)]
+mod board_inputs;
+#[cfg(test)]
+mod branch_inputs;
+#[cfg(test)]
+mod choice_inputs;
+#[cfg(test)]
+mod drawn_inputs;
+#[cfg(test)]
 mod engine_tests;
+#[cfg(test)]
+mod fork_inputs;
 #[cfg(test)]
 mod graph_cases;
 #[cfg(test)]
+mod inputs;
+#[cfg(test)]
 mod job_cases;
 #[cfg(test)]
+mod line_inputs;
+#[cfg(test)]
+mod long_inputs;
+#[cfg(test)]
+mod placing_inputs;
+#[cfg(test)]
 mod platform_cases;
+#[cfg(test)]
+mod platform_inputs;
 #[cfg(test)]
 mod run_tests;
 #[cfg(test)]
 mod seat_cases;
+#[cfg(test)]
+mod value_inputs;
 
 #[cfg(test)]
 mod tests {
