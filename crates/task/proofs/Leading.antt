@@ -1,13 +1,13 @@
 -- What the kept edges lead to: one step back, the same under equal edges, and a turn of the loop that finds it.
-use Rattle.std.proofs.Common.{◌≡◌, ℕ, ◌+◌, ◌<◌, Bool, true, false, ◌&&◌, ◌⊎◌, List, length, get_or, set, Decides, refl, sym, ap, ◌∙◌, subst, inl, inr, arith}
+use Rattle.std.proofs.Common.{◌≡◌, ℕ, ◌+◌, ◌<◌, ◌≤◌, Bool, true, false, ◌&&◌, ◌⊎◌, List, length, get_or, set, Decides, refl, sym, ap, ◌∙◌, subst, inl, inr, arith}
 use Rattle.std.proofs.lemmas.List.{get_or-set_same, get_or-set_other}
-use Rattle.std.proofs.lemmas.Bool.{cases_eq, and_from, and_parts, both_ways}
+use Rattle.std.proofs.lemmas.Bool.{cases_eq, cases_lt, cases_Bool, and_from, and_parts, both_ways}
 use Rattle.task.specs.declared.node.Node.{Node}
 use Rattle.task.specs.declared.node.Numbering.{Numbering}
 use Rattle.task.specs.Concrete.{Led, first, next, Rises}
 use Rattle.task.specs.Graph.{edge, Upward}
 use Rattle.task.specs.Picks.{keeps}
-use Rattle.task.specs.Tables.{Tells}
+use Rattle.task.specs.Tables.{Tells, leads}
 use Rattle.task.proofs.Places.{edge_inside}
 
 pub led_back : {ns : List Node} {keep : ℕ → ℕ → Bool} {v : ℕ} → Led ns keep v → ((u : ℕ) → edge ns u v ≡ false) ⊎ ((u : ℕ) × Led ns keep u × (keep u v ≡ true))
@@ -57,6 +57,22 @@ told_same ns k j same table tells v =
 -- some of the edges of the graph
 pub some_rise : (ns : List Node) → Upward ns → (keep : ℕ → ℕ → Bool) → ((u v : ℕ) → keep u v ≡ true → edge ns u v ≡ true) → Rises ns keep
 some_rise ns upward keep some u v y = (upward u v (some u v y), edge_inside ns u v (some u v y))
+
+-- edges of the graph of which the test K keeps some
+module _ (ns : List Node) (upward : Upward ns) (was will : List (List Bool)) (F K : ℕ → ℕ → Bool) (same : (u v : ℕ) → leads was u v ≡ F u v)
+    (some : (u v : ℕ) → F u v ≡ true → edge ns u v ≡ true)
+    (inside : (u v : ℕ) → v < length ns → leads will u v ≡ (leads was u v && K u v)) (outside : (u v : ℕ) → length ns ≤ v → leads will u v ≡ false) where
+  pub restricted_same : (u v : ℕ) → leads will u v ≡ (F u v && K u v)
+  restricted_same u v = elim (cases_lt v (length ns)) [
+    | inl below ↦ inside u v below ∙ ap (λ b. b && K u v) (same u v)
+    | inr past ↦ elim (cases_Bool (F u v)) [
+      | inl y ↦ absurd (omega (arith, edge_inside ns u v (some u v y)))
+      | inr n ↦ outside u v past ∙ sym (ap (λ b. b && K u v) n)
+    ]
+  ]
+
+  pub restricted_rises : Rises ns (leads will)
+  restricted_rises = some_rise ns upward (leads will) (λ u v y. some u v (and_parts (F u v) (K u v) (sym (restricted_same u v) ∙ y)).0)
 
 -- what a number keeps of some edges, said of the same nodes and the same number
 pub kept_same : (m m' : Numbering) (ns ns' : List Node) (k k' : ℕ) → m' ≡ m → ns' ≡ ns → k' ≡ k → (a b : Bool) → a ≡ b → (u v : ℕ) → (a && keeps m' ns' k' u v) ≡ (b && keeps m ns k u v)

@@ -3,23 +3,13 @@ ghost use Rattle.std.specs.Prelude.{◌≡◌, ℕ, ◌<◌, false, ◌&&◌, �
 ghost use Rattle.task.specs.Concrete.{IsConcrete, Led, Reached, Rises};
 ghost use Rattle.task.specs.Flaws.{graph};
 ghost use Rattle.task.specs.Graph.{edge};
-ghost use Rattle.task.specs.Picks.{by_both, by_choice};
+ghost use Rattle.task.specs.Picks.{by_both, by_choice, keeps};
 ghost use Rattle.task.specs.Tables.{Apart, Free, Meets, SomeOf, Tells, leads};
 
 use crate::job::Job;
 use crate::node::{After, NODES, Node, Numbering};
 use crate::tables::{Concrete, Edges};
 use std::array;
-
-/// The edges to a node.
-fn edges_to(nodes: &[Node], v: usize) -> After
-    ensures { (u : ℕ) → slice_index_or result u false ≡ edge nodes.now u v }
-{
-    match nodes.get(v) {
-        Some(node) => *node.after(),
-        None => [false; NODES],
-    }
-}
 
 fn both(a: &After, b: &After) -> After
     ensures { (u : ℕ) → slice_index_or result u false ≡ (slice_index_or a.now u false && slice_index_or b.now u false) }
@@ -53,31 +43,45 @@ fn among(edges: &Edges, members: &[bool; NODES]) -> Edges
 }
 
 impl Job {
-    fn edges(&self) -> Edges
-        ensures { (u v : ℕ) → leads result u v ≡ edge (graph self.now) u v }
-    {
-        let nodes = self.graph();
-        array::from_fn(
-            |v| -> After
-                ensures { (u : ℕ) → slice_index_or result u false ≡ edge nodes.entry.now u v }
-            { edges_to(nodes, v) },
-        )
-    }
-
     // That the kept edges rise stands in the clauses: a table of edges does not know its job.
     fn kept_by_choice(&self, choice: u32) -> Edges
         ensures same { (u v : ℕ) → leads result u v ≡ by_choice (graph self.now) choice u v }
         ensures rises { Rises (graph self.now) (leads result) }
     {
-        self.picks(Numbering::Choice, choice).kept(&self.edges())
+        let nodes = self.graph();
+        let choice = self.picks(Numbering::Choice, choice);
+        // Only the rows of nodes are filtered: a job often has few of the 24.
+        array::from_fn(
+            |v| -> After
+                requires { v < 24 }
+                ensures { (u : ℕ) → slice_index_or result u false ≡ (edge nodes.entry.now u v && keeps choice.entry.numbering choice.entry.nodes.now choice.entry.number u v) }
+            {
+                match nodes.get(v) {
+                    Some(node) => choice.row(v, node.after()),
+                    None => [false; NODES],
+                }
+            },
+        )
     }
 
     fn kept_by_both(&self, choice: u32, branch: u32) -> Edges
         ensures same { (u v : ℕ) → leads result u v ≡ by_both (graph self.now) choice branch u v }
         ensures rises { Rises (graph self.now) (leads result) }
     {
-        self.picks(Numbering::Branch, branch)
-            .kept(&self.kept_by_choice(choice))
+        let nodes = self.graph();
+        let choice = self.picks(Numbering::Choice, choice);
+        let branch = self.picks(Numbering::Branch, branch);
+        array::from_fn(
+            |v| -> After
+                requires { v < 24 }
+                ensures { (u : ℕ) → slice_index_or result u false ≡ ((edge nodes.entry.now u v && keeps choice.entry.numbering choice.entry.nodes.now choice.entry.number u v) && keeps branch.entry.numbering branch.entry.nodes.now branch.entry.number u v) }
+            {
+                match nodes.get(v) {
+                    Some(node) => branch.row(v, &choice.row(v, node.after())),
+                    None => [false; NODES],
+                }
+            },
+        )
     }
 
     /// The nodes that the kept edges lead to, from those without an edge in.

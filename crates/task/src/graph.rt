@@ -9,9 +9,9 @@ use crate::node::{Node, Numbering};
 pub(crate) fn rank(nodes: &[Node], u: usize, v: usize) -> usize
     ensures { result ≡ rank nodes.now u v }
 {
-    nodes
+    // Cut first: a `take` would count beside the nodes at each turn.
+    nodes[..v.min(nodes.len())]
         .iter()
-        .take(v)
         .filter(|node| node.comes_after(u))
         .count()
 }

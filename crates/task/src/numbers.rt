@@ -2,14 +2,12 @@
 ghost use Rattle.std.specs.Prelude.{◌≡◌, ℕ, ◌<◌, ◌&&◌, false, length, slice_index, slice_index_or};
 ghost use Rattle.task.specs.Flaws.{graph};
 ghost use Rattle.task.specs.Picks.{keeps, numbers, pick, ways};
-ghost use Rattle.task.specs.Tables.{leads};
 ghost use Rattle.task.specs.declared.node.Numbering.TheVariants.{Choice, Branch};
 
 use crate::graph::rank;
 use crate::job::Job;
 use crate::node::{After, NODES, Node, Numbering};
 use crate::picks::Picks;
-use crate::tables::Edges;
 use std::array;
 
 /// In how many ways such a number may pick at a node.
@@ -92,21 +90,9 @@ impl Picks<'_> {
     }
 
     /// The edges to `v` that the number keeps, of these.
-    fn row(&self, v: usize, edges: &After) -> After
+    pub(crate) fn row(&self, v: usize, edges: &After) -> After
         ensures { (u : ℕ) → slice_index_or result u false ≡ (slice_index_or edges.now u false && keeps self.now.numbering self.now.nodes.now self.now.number u v) }
     {
         array::from_fn(|u| edges[u] && self.keeps(u, v))
-    }
-
-    /// The edges that the number keeps, of these.
-    pub(crate) fn kept(&self, edges: &Edges) -> Edges
-        ensures { (u v : ℕ) → leads result u v ≡ (leads edges.now u v && keeps self.now.numbering self.now.nodes.now self.now.number u v) }
-    {
-        array::from_fn(
-            |v| -> After
-                requires { v < 24 }
-                ensures { (u : ℕ) → slice_index_or result u false ≡ (leads edges.entry.now u v && keeps self.entry.now.numbering self.entry.now.nodes.now self.entry.now.number u v) }
-            { self.row(v, &edges[v]) },
-        )
     }
 }
