@@ -19,6 +19,10 @@ least_from_best cmp items n i all best = record {
   after = λ k d lt low. best.1 k d (omega arith);
 }
 
+-- the first alone is the best
+pub alone : {K : Type 0} {cmp : K → K → Ordering} → IsTotalOrder cmp → (items : List K) (i b : ℕ) → i ≡ 0 → (i ≡ 0 → b ≡ 0) → IsFirstBest (λ v w. is_lt (cmp v w)) items (i + 1) b
+alone o items i b none start = rw (none, start none) (IsFirstBest-none (ranks_by o (λ k. k)) items)
+
 -- the best of the first i items is kept or replaced by the next; where there are none yet, it is the first
 module _ {K : Type 0} {cmp : K → K → Ordering} (o : IsTotalOrder cmp) (items : List K) (i b : ℕ) (x y : K) (start : i ≡ 0 → b ≡ 0) (best : 0 < i → IsFirstBest (λ v w. is_lt (cmp v w)) items i b) (within : i < length items) (at_i : x ≡ get_or items i x) (at_b : y ≡ get_or items b y) where
   pub takes : is_lt (cmp x y) ≡ true → IsFirstBest (λ v w. is_lt (cmp v w)) items (i + 1) i
@@ -29,7 +33,7 @@ module _ {K : Type 0} {cmp : K → K → Ordering} (o : IsTotalOrder cmp) (items
 
   pub keeps : is_lt (cmp x y) ≡ false → IsFirstBest (λ v w. is_lt (cmp v w)) items (i + 1) b
   keeps more = elim (cases_eq i 0) [
-    | inl none ↦ rw (none, start none) (IsFirstBest-none (ranks_by o (λ k. k)) items)
+    | inl none ↦ alone o items i b none start
     | inr some ↦ IsFirstBest-keeps (ranks_by o (λ k. k)) items i b x y (best (omega arith)) within at_i at_b more
   ]
 

@@ -1,17 +1,19 @@
 -- The orders by load are total, and how candidates are compared.
-use Rattle.std.proofs.Common.{◌≡◌, ℕ, Bool, true, false, cond, ◌&&◌, ◌||◌, eqb, ltb, Less, Equal, Greater, List, [], ◌∷◌, map, get_or, sym, refl, ap, ◌∙◌, arith}
-use Rattle.std.proofs.lemmas.Bool.{true≢false, false≢true}
+use Rattle.std.proofs.Common.{◌≡◌, ℕ, Bool, true, false, cond, ◌&&◌, ◌||◌, eqb, ltb, Less, Equal, Greater, List, [], ◌∷◌, map, get_or, Some, inl, inr, sym, refl, ap, subst, ◌∙◌, arith}
+use Rattle.std.proofs.ByRecursion.{All-from_get_or}
+use Rattle.std.proofs.lemmas.Bool.{true≢false, false≢true, cases_order}
 use Rattle.std.proofs.lemmas.Option.{slice_get-map}
 use Rattle.std.specs.declared.cmp.Ordering.{Ordering}
 use Rattle.std.specs.Cmp.{IsStrictWeakOrder, IsTotalOrder}
-use Rattle.std.specs.List.{slice_get}
+use Rattle.std.specs.List.{AllByRecursion, slice_get}
 use Rattle.std.specs.List.Sorted.{IsPermutation, IsSortedBy}
 use Rattle.std.specs.Option.{option_map}
 use Rattle.std.specs.Ordering.{is_lt, nat_cmp, ordering_reverse, ordering_then}
 use Rattle.order.specs.declared.fullest.Candidate.{Candidate}
 use Rattle.order.specs.Fullest.{is_before, before, candidate}
+use Rattle.order.specs.Least.{FirstLeast}
 use Rattle.order.specs.Sorting.{put, sorted}
-use Rattle.order.proofs.Sorts.{Strict, sorted_is}
+use Rattle.order.proofs.Sorts.{Strict, first_sorted, sorted_is}
 use Rattle.std.proofs.lemmas.Bool.Decides.{nat_tests}
 
 one_way_by : (m n a b : ℕ) → is_before m n a b ≡ true → is_before n m b a ≡ false
@@ -93,6 +95,25 @@ ranked c d =
     let same : eqb d.load.0 c.load.0 ≡ eqb c.load.0 d.load.0 = grind (arith, nat_tests) in
     ranked_by (ltb d.load.0 c.load.0) (eqb d.load.0 c.load.0) (ltb c.engine d.engine) (eqb c.engine d.engine) ∙ ap (λ b. ltb d.load.0 c.load.0 || (b && ltb c.engine d.engine)) same
 
+not_itself : (m a : ℕ) → is_before m m a a ≡ false
+not_itself m a = grind (arith, nat_tests)
+
+-- the comparison of candidates
+abbrev pub compare : Candidate → Candidate → Ordering
+compare c d = ordering_then (nat_cmp d.load.0 c.load.0) (nat_cmp c.engine d.engine)
+
+-- none comes before the first least
+none_ahead : (cs : List Candidate) (i : ℕ) (d : Candidate) → FirstLeast compare cs i → AllByRecursion (λ z. ahead z (get_or cs i d) ≡ false) cs
+none_ahead cs i d first =
+    All-from_get_or (λ z. ahead z (get_or cs i d) ≡ false) cs d (λ k low.
+    elim (cases_order k i) [
+      | inl same ↦ subst (λ (n : ℕ). ahead (get_or cs n d) (get_or cs i d) ≡ false) (sym same) (not_itself (get_or cs i d).load.0 (get_or cs i d).engine)
+      | inr other ↦ elim other [
+        | inl lt ↦ ahead_strict.one_way (get_or cs i d) (get_or cs k d) (sym (ranked (get_or cs i d) (get_or cs k d)) ∙ ap is_lt (first.before k d lt))
+        | inr gt ↦ sym (ranked (get_or cs k d) (get_or cs i d)) ∙ first.after k d gt low
+      ]
+    ])
+
 module _ (loads : List ℕ) where
   put_map_by : (e y : ℕ) (ys : List ℕ) → put ahead (candidate loads e) (map (candidate loads) ys) ≡ map (candidate loads) (put (before loads) e ys) → (b : Bool) → cond b (candidate loads e ∷ (candidate loads y ∷ map (candidate loads) ys)) (candidate loads y ∷ put ahead (candidate loads e) (map (candidate loads) ys)) ≡ map (candidate loads) (cond b (e ∷ (y ∷ ys)) (y ∷ put (before loads) e ys))
   put_map_by e y ys rec true = refl
@@ -116,3 +137,11 @@ module _ (loads : List ℕ) where
       sym (slice_get-map (λ (c : Candidate). c.engine) cs place)
       ∙ ap (λ l. slice_get (map (λ (c : Candidate). c.engine) l) place) (sorted_is ahead ahead_strict (map (candidate loads) es) cs ahead_weak moved up ∙ sorted_map es)
       ∙ ap (λ l. slice_get l place) (engines (sorted (before loads) es))
+
+  -- the engine of the first least candidate
+  pub engine_first : (es : List ℕ) (cs : List Candidate) (i : ℕ) (d : Candidate) → cs ≡ map (candidate loads) es → FirstLeast compare cs i → Some (get_or cs i d).engine ≡ slice_get (sorted (before loads) es) 0
+  engine_first es cs i d is first =
+      ap (option_map (λ (c : Candidate). c.engine)) (sym (first_sorted ahead ahead_strict cs i d first.within (none_ahead cs i d first)))
+      ∙ sym (slice_get-map (λ (c : Candidate). c.engine) (sorted ahead cs) 0)
+      ∙ ap (λ l. slice_get (map (λ (c : Candidate). c.engine) l) 0) (ap (sorted ahead) is ∙ sorted_map es)
+      ∙ ap (λ l. slice_get l 0) (engines (sorted (before loads) es))

@@ -1,11 +1,12 @@
 -- Lists sorted by a total order.
-use Rattle.std.proofs.Common.{◌≡◌, ℕ, zero, suc, ◌+◌, ◌<◌, Bool, true, false, cond, List, [], ◌∷◌, length, get_or, set, sym, refl, ap, subst, ◌∙◌, arith}
+use Rattle.std.proofs.Common.{◌≡◌, ℕ, zero, suc, ◌+◌, ◌<◌, Bool, true, false, cond, List, [], ◌∷◌, ◌++◌, length, get_or, set, Some, sym, refl, ap, subst, ◌∙◌, arith}
 use Rattle.order.specs.Sorting.{put, sorted, InOrder}
 use Rattle.std.proofs.ByRecursion.{All-from_get_or, All-weaker}
 use Rattle.std.proofs.lemmas.Bool.{true≢false, cond_both}
+use Rattle.std.proofs.lemmas.Option.{none-some, same_Some}
 use Rattle.std.proofs.lemmas.List.Sorted.{IsPermutation-keeps, sorted_far}
 use Rattle.std.specs.Cmp.{IsStrictWeakOrder}
-use Rattle.std.specs.List.{AllByRecursion, swap}
+use Rattle.std.specs.List.{AllByRecursion, slice_get, swap}
 use Rattle.std.specs.List.Sorted.{IsPermutation, IsSortedBy}
 
 -- before is a total order: of two that differ one comes before the other
@@ -24,6 +25,10 @@ module _ {X : Type 0} (before : X → X → Bool) where
   pub all_put : (P : X → Type 0) (x : X) (ys : List X) → P x → AllByRecursion P ys → AllByRecursion P (put before x ys)
   all_put P x [] here all = (here, tt)
   all_put P x (y ∷ ys) here all = cond_both (before x y) (x ∷ (y ∷ ys)) (y ∷ put before x ys) (λ l. AllByRecursion P l) (λ _. (here, all)) (λ _. (all.0, all_put P x ys here all.1))
+
+  pub all_sorted : (P : X → Type 0) (xs : List X) → AllByRecursion P xs → AllByRecursion P (sorted before xs)
+  all_sorted P [] all = tt
+  all_sorted P (x ∷ xs) all = all_put P x (sorted before xs) all.0 (all_sorted P xs all.1)
 
 module _ {X : Type 0} (before : X → X → Bool) (o : Strict before) where
   later : (x y z : X) → before x y ≡ true → before z y ≡ false → (b : Bool) → before z x ≡ b → b ≡ false
@@ -67,6 +72,10 @@ module _ {X : Type 0} (before : X → X → Bool) (o : Strict before) where
   put_comm a b [] = two a b [] (before a b) (before b a) refl refl
   put_comm a b (x ∷ xs) = put_comm_by a b x xs (put_comm a b xs) (before a x) (before b x) refl refl
 
+  pub sorted_push : (xs : List X) (y : X) → sorted before (xs ++ (y ∷ [])) ≡ put before y (sorted before xs)
+  sorted_push [] y = refl
+  sorted_push (x ∷ xs) y = ap (put before x) (sorted_push xs y) ∙ put_comm x y (sorted before xs)
+
   pub sorted_set : (xs : List X) (i : ℕ) (y d : X) → i < length xs → put before (get_or xs i d) (sorted before (set xs i y)) ≡ put before y (sorted before xs)
   sorted_set [] i y d in' = absurd (omega arith)
   sorted_set (x ∷ xs) zero y d in' = put_comm x y (sorted before xs)
@@ -82,6 +91,16 @@ module _ {X : Type 0} (before : X → X → Bool) (o : Strict before) where
   pub put_first : (x : X) (ys : List X) → AllByRecursion (λ y. before y x ≡ false) ys → put before x ys ≡ x ∷ ys
   put_first x [] all = refl
   put_first x (y ∷ ys) all = put_first_by x y ys (put_first x ys all.1) all.0 (before x y) refl
+
+  head_put : (x m : X) (ys : List X) → slice_get ys 0 ≡ Some m → before x m ≡ false → slice_get (put before x ys) 0 ≡ Some m
+  head_put x m [] is back = absurd (none-some _ is)
+  head_put x m (y ∷ ys) is back = let same : y ≡ m = same_Some _ _ is in ap (λ l. slice_get l 0) (put_no before x y ys (ap (before x) same ∙ back)) ∙ is
+
+  -- an item that none comes before is the first of the list sorted
+  pub first_sorted : (xs : List X) (i : ℕ) (d : X) → i < length xs → AllByRecursion (λ z. before z (get_or xs i d) ≡ false) xs → slice_get (sorted before xs) 0 ≡ Some (get_or xs i d)
+  first_sorted [] i d within all = absurd (omega arith)
+  first_sorted (x ∷ xs) zero d within all = ap (λ l. slice_get l 0) (put_first x (sorted before xs) (all_sorted before (λ z. before z x ≡ false) xs all.1))
+  first_sorted (x ∷ xs) (suc i) d within all = head_put x (get_or xs i d) (sorted before xs) (first_sorted xs i d (omega arith) all.1) all.0
 
   sorted_swapped : (xs : List X) (i j : ℕ) (d : X) → i < length xs → j < length xs → sorted before (set (set xs i (get_or xs j d)) j (get_or xs i d)) ≡ sorted before xs
   sorted_swapped [] i j d low low' = refl

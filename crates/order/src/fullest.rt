@@ -6,8 +6,8 @@ ghost use Rattle.order.specs.FullestLaws.{fullest_complete};
 ghost use Rattle.order.specs.Listing.{engines_of};
 ghost use Rattle.order.specs.Sorting.{InOrder};
 
+use crate::least::least;
 use crate::order::EngineOrder;
-use crate::tagged::tagged;
 use engine::roster::{ENGINES, Roster};
 use few::few::Few;
 use std::cmp::Reverse;
@@ -23,20 +23,23 @@ struct Candidate {
     engine: usize,
 }
 
-/// The engines of the tag with their loads.
-fn candidates<R: Roster>(roster: &R, tag: u32, loads: &[u32; ENGINES]) -> Few<Candidate, ENGINES>
-    ensures { items result ≡ map (candidate loads.now) (engines_of (R.Roster.tags roster.now) tag) }
+// They are put into a list of the caller, since a list that is returned is copied.
+/// Puts the engines of the tag with their loads into an empty list.
+fn gather<R: Roster>(
+    roster: &R,
+    tag: u32,
+    loads: &[u32; ENGINES],
+    candidates: &mut Few<Candidate, ENGINES>,
+)
+    requires { items candidates.now ≡ [] }
+    ensures { items candidates.new ≡ map (candidate loads.now) (engines_of (R.Roster.tags roster.now) tag) }
 {
-    let engines = tagged(roster, tag);
-    let mut candidates = Few::new(Candidate {
-        load: Reverse(0),
-        engine: 0,
-    });
-    for &engine in engines.as_slice() {
-        let load = Reverse(loads[engine]);
-        candidates.push(Candidate { load, engine }).unwrap();
+    for engine in 0..roster.engines() {
+        if roster.tag(engine) == Some(tag) {
+            let load = Reverse(loads[engine]);
+            candidates.push(Candidate { load, engine }).unwrap();
+        }
     }
-    candidates
 }
 
 impl EngineOrder for Fullest {
@@ -54,7 +57,15 @@ impl EngineOrder for Fullest {
         ensures at { result ≡ slice_get (fullest_listing self.now [] (R.Roster.tags roster.now) tag loads.now) place }
         ensures sorted { InOrder (before loads.now) (fullest_listing self.now [] (R.Roster.tags roster.now) tag loads.now) }
     {
-        let mut candidates = candidates(roster, tag, loads);
+        let mut candidates = Few::new(Candidate {
+            load: Reverse(0),
+            engine: 0,
+        });
+        gather(roster, tag, loads, &mut candidates);
+        if place == 0 {
+            let first = least(&candidates)?;
+            return Some(candidates[first].engine);
+        }
         candidates.sort();
         candidates.get(place).map(|candidate| candidate.engine)
     }

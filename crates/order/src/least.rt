@@ -12,7 +12,8 @@ pub fn least<T: Ord>(items: &[T]) -> Option<usize>
     // The contract of `min_by` tells the comparisons one by one, and not that its item is the first least.
     let mut best = 0;
     for (i, item) in items.iter().enumerate() {
-        if item.cmp(&items[best]).is_lt() {
+        // The first is the best so far, and is not compared with itself.
+        if 0 < i && item.cmp(&items[best]).is_lt() {
             best = i;
         }
     }

@@ -5,5 +5,4 @@ pub mod fullest;
 pub mod least;
 pub mod order;
 pub mod rota;
-mod tagged;
 pub mod turns;

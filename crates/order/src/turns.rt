@@ -5,7 +5,6 @@ ghost use Rattle.order.specs.RotaLaws.{rota_complete};
 
 use crate::order::EngineOrder;
 use crate::rota::{Rota, TAGS};
-use crate::tagged::tagged;
 use engine::roster::{ENGINES, Roster};
 
 fn is_after(last: Option<usize>, engine: usize) -> bool
@@ -42,10 +41,13 @@ impl EngineOrder for Rota {
         place: usize,
     ) -> Option<usize> {
         let last = self.last_of(tag);
-        let engines = tagged(roster, tag);
-        let after = engines.iter().filter(|engine| is_after(last, **engine));
-        let others = engines.iter().filter(|engine| !is_after(last, **engine));
-        after.chain(others).nth(place).copied()
+        let after = (0..roster.engines())
+            .filter(|engine| roster.tag(*engine) == Some(tag))
+            .filter(|engine| is_after(last, *engine));
+        let others = (0..roster.engines())
+            .filter(|engine| roster.tag(*engine) == Some(tag))
+            .filter(|engine| !is_after(last, *engine));
+        after.chain(others).nth(place)
     }
 
     fn tell(&mut self, tag: u32, engine: usize)
