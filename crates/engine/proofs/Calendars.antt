@@ -1,8 +1,8 @@
 -- The courses of a calendar, and what it answers of an engine.
-use Rattle.std.proofs.Common.{◌≡◌, ℕ, zero, suc, ◌+◌, ◌<◌, ◌≤◌, Bool, List, [], ◌∷◌, ◌++◌, map, length, get_or, take, Option, Some, None, MatchOption, Bor, sym, ap, subst, ◌∙◌}
+use Rattle.std.proofs.Common.{◌≡◌, ℕ, zero, suc, ◌+◌, ◌<◌, ◌≤◌, Bool, List, [], ◌∷◌, ◌++◌, map, length, length-take, get_or, take, Option, Some, None, MatchOption, Bor, sym, ap, subst, ◌∙◌, add-one, arith}
 use Rattle.std.specs.List.{slice_get}
 use Rattle.std.specs.Option.{option_copied}
-use Rattle.std.proofs.lemmas.List.{map_more, map_push, take_all}
+use Rattle.std.proofs.lemmas.List.{length-map, map_more, map_push, take_all}
 use Rattle.std.proofs.lemmas.List.Elements.{All-more}
 use Rattle.std.proofs.lemmas.Option.{none-some, same_Some}
 use Rattle.engine.specs.declared.course.Course.{Course}
@@ -29,3 +29,31 @@ one_more ms i m cs ds c below at is put fit was = (
 -- and all of them
 pub all_made : (ms : List Marks) (i : ℕ) (cs : List Course) → length ms ≤ i → AllFit (take i ms) → calendar cs ≡ map marked (take i ms) → AllFit ms × (calendar cs ≡ map marked ms)
 all_made ms i cs past fit was = let whole = take_all i ms past in (subst AllFit whole fit, was ∙ ap (map marked) whole)
+
+-- the first course
+pub first_made : (ms os : List Marks) (first : Marks) (cs ds : List Course) (c : Course) → ms ≡ first ∷ os → Fit first × (served c ≡ marked first) → cs ≡ [] → ds ≡ cs ++ c ∷ [] → AllFit (take (0 + 1) ms) × (calendar ds ≡ map marked (take (0 + 1) ms))
+first_made ms os first cs ds c is made none put =
+    let long : length ms ≡ suc (length os) = ap length is in
+    one_more ms 0 first cs ds c (omega arith) (sym (ap (λ l. get_or l 0 first) is)) made put (λ k d low. absurd (omega arith)) (ap calendar none)
+
+-- after the first, one course more of the others
+pub one_other : (ms os : List Marks) (first : Marks) (i : ℕ) (m : Marks) (cs ds : List Course) (c : Course) → ms ≡ first ∷ os → i < length os → m ≡ get_or os i m → Fit m × (served c ≡ marked m) → ds ≡ cs ++ c ∷ [] → AllFit (take (i + 1) ms) → calendar cs ≡ map marked (take (i + 1) ms) → AllFit (take (i + 1 + 1) ms) × (calendar ds ≡ map marked (take (i + 1 + 1) ms))
+one_other ms os first i m cs ds c is below at made put fit was =
+    let long : length ms ≡ suc (length os) = ap length is in
+    let one : i + 1 ≡ suc i = omega arith in
+    let there : m ≡ get_or ms (i + 1) m = at ∙ sym (ap (λ l. get_or l (i + 1) m) is ∙ ap (λ k. get_or (first ∷ os) k m) one) in
+    one_more ms (i + 1) m cs ds c (omega arith) there made put fit was
+
+-- marks among the others that are not fit
+pub unfit_other : (ms os : List Marks) (first : Marks) (i : ℕ) (m : Marks) → ms ≡ first ∷ os → i < length os → m ≡ get_or os i m → (Fit m → ⊥) → AllFit ms → ⊥
+unfit_other ms os first i m is below at unfit fit =
+    let long : length ms ≡ suc (length os) = ap length is in
+    let one : i + 1 ≡ suc i = omega arith in
+    let there : get_or ms (i + 1) m ≡ m = ap (λ l. get_or l (i + 1) m) is ∙ ap (λ k. get_or (first ∷ os) k m) one ∙ sym at in
+    unfit (subst Fit there (fit (i + 1) m (omega arith)))
+
+-- as many courses as marks that were gone through
+pub made_many : (ms : List Marks) (n : ℕ) (cs : List Course) → n ≤ length ms → calendar cs ≡ map marked (take n ms) → length cs ≡ n
+made_many ms n cs within was =
+    let same = ap length was in
+    omega (arith, length-map cs served, length-map (take n ms) marked, length-take n ms)

@@ -28,9 +28,12 @@ fn courses(marks: &[Marks]) -> Option<Few<Course, ENGINES>>
     requires { (1 ≤ length marks.now) × (length marks.now ≤ 16) }
     ensures { MatchOption result (AllFit marks.now → ⊥) (λ cs. AllFit marks.now × (calendar (items cs) ≡ map marked marks.now)) }
 {
-    // The first course fills the places.
-    let mut courses = Few::new(Course::new(marks.first()?)?);
-    for each in marks {
+    // The first course fills the places, and is made once.
+    let (first, others) = marks.split_first()?;
+    let course = Course::new(first)?;
+    let mut courses = Few::new(course);
+    courses.push(course).unwrap();
+    for each in others {
         courses.push(Course::new(each)?).unwrap();
     }
     Some(courses)

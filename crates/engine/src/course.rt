@@ -11,7 +11,6 @@ use crate::sums::{ROUND, Sums};
 #[derive(Debug, Clone, Copy, PartialEq, Eq)]
 pub(crate) struct Course {
     pub(crate) round: Round,
-    /// A place beyond the round has the fewest in a whole round.
     pub(crate) least: [u32; ROUND],
     ghost tabled: { ((n : ℕ) → n ≤ length (marked round.marks) → slice_index least n ≡ fewest (marked round.marks) n) },
 }

@@ -10,10 +10,13 @@ pub const MARKS: usize = 240;
 /// A belt cycle in ticks. It stands here too, since this crate does not know `task`.
 const BELT_CYCLE: usize = 14_400;
 
+/// The places for marks: one more than an engine has, so that too many can be handed over and be found unfit.
+pub const PLACES: usize = MARKS + 1;
+
 /// Marks: true for a served tick. After the last comes the first again.
 #[derive(Debug, Clone, Copy, PartialEq, Eq)]
 pub struct Marks {
-    pub served: Few<bool, MARKS>,
+    pub served: Few<bool, PLACES>,
 }
 
 impl Marks {
@@ -24,6 +27,6 @@ impl Marks {
         ensures { IsTrue result ↔ Fit self.now }
     {
         let marks = self.served.as_slice();
-        !marks.is_empty() && BELT_CYCLE % marks.len() == 0 && marks.contains(&true)
+        (1..=MARKS).contains(&marks.len()) && BELT_CYCLE % marks.len() == 0 && marks.contains(&true)
     }
 }

@@ -1,5 +1,5 @@
 //! How many of the first marks are true, and the fewest in a row by that.
-ghost use Rattle.std.specs.Prelude.{◌≡◌, ℕ, ◌<◌, ◌≤◌, length, slice_index};
+ghost use Rattle.std.specs.Prelude.{◌≡◌, ℕ, ◌+◌, ◌≤◌, length, slice_index};
 ghost use Rattle.cyclic.specs.Fewest.{fewest};
 ghost use Rattle.cyclic.specs.Ones.{ones};
 ghost use Rattle.engine.specs.Marks.{marked};
@@ -14,21 +14,24 @@ const SUMS: usize = 2 * MARKS + 1;
 /// The places of a table from 0 to a round of marks.
 pub(crate) const ROUND: usize = MARKS + 1;
 
-/// A round of marks, and for each k up to two rounds of the longest how many of the first k are true.
+/// A round of marks, and for each k up to two rounds of them how many of the first k are true.
 #[derive(Debug, Clone, Copy, PartialEq, Eq)]
 pub(crate) struct Sums {
     round: Round,
     table: [u32; SUMS],
-    ghost summed: { ((k : ℕ) → k < 481 → slice_index table k ≡ ones (marked round.marks) 0 k) },
+    ghost summed: { ((k : ℕ) → k ≤ length (marked round.marks) + length (marked round.marks) → slice_index table k ≡ ones (marked round.marks) 0 k) },
 }
 
-/// For each place of the table how many of the marks before it are true.
+/// For each k up to two rounds of the marks how many of the first k are true.
 fn summed(round: &Round) -> [u32; SUMS]
-    ensures { (k : ℕ) → k < 481 → slice_index result k ≡ ones (marked round.now.marks) 0 k }
+    ensures { (k : ℕ) → k ≤ length (marked round.now.marks) + length (marked round.now.marks) → slice_index result k ≡ ones (marked round.now.marks) 0 k }
 {
     let mut table = [0; SUMS];
     let mut sum = 0;
     for (k, place) in table.iter_mut().enumerate() {
+        if k > 2 * round.len() {
+            break;
+        }
         *place = sum;
         sum += round.mark(k);
     }
@@ -70,6 +73,17 @@ impl Sums {
     pub(crate) fn least(&self) -> [u32; ROUND]
         ensures { (n : ℕ) → n ≤ length (marked self.now.round.marks) → slice_index result n ≡ fewest (marked self.now.round.marks) n }
     {
-        array::from_fn(|n| self.fewest(n.min(self.round.len())))
+        // A place beyond the round is not asked for, and costs nothing.
+        array::from_fn(
+            |n| -> u32
+                ensures { n ≤ length (marked self.entry.now.round.marks) → result ≡ fewest (marked self.entry.now.round.marks) n }
+            {
+                if n <= self.round.len() {
+                    self.fewest(n)
+                } else {
+                    0
+                }
+            },
+        )
     }
 }

@@ -25,7 +25,8 @@ impl Tags {
     pub fn new(tags: &[u32]) -> Option<Tags>
         ensures { MatchOption result (Rostered tags.now → ⊥) (λ t. tag_list t ≡ tags.now) }
     {
-        if tags.is_empty() || !tags.iter().all(|tag| *tag <= HIGHEST) {
+        // How many there are is asked first, so that too many are not gone through.
+        if tags.is_empty() || tags.len() > ENGINES || !tags.iter().all(|tag| *tag <= HIGHEST) {
             return None;
         }
         Some(Tags {

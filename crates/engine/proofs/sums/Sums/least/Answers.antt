@@ -7,4 +7,4 @@ use Rattle.engine.proofs.sums.Sums.least.Goals as goal
 pub returns : goal.returns
 returns c =
     let marks = marked c.args.self.now.round.marks in
-    λ n low. filled c.from_fn.ensures.items (λ i (y : ℕ). i ≤ length marks → y ≡ fewest marks i) (λ i y f' short k. (λ inside. search rules, search rules)) n 0 (omega (arith, c.args.self.now.round.short)) low
+    λ n low. filled c.from_fn.ensures.items (λ i (y : ℕ). i ≤ length marks → y ≡ fewest marks i) (λ i y f' short k. search rules) n 0 (omega (arith, c.args.self.now.round.short)) low
