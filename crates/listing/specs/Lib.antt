@@ -1,3 +1,4 @@
 pub mod Rules
 pub mod Answer
+pub mod Lines
 pub mod Listing

@@ -2,5 +2,6 @@
 #![tactic(auto)]
 
 mod answer;
+pub mod lines;
 pub mod listing;
 pub mod opening;
